@@ -1,0 +1,17 @@
+-- The theorems.
+pub mod Term
+pub mod Normal
+pub mod Meaning
+pub mod Push
+pub mod Derive
+pub mod Every
+pub mod Sound
+pub mod Counters
+pub mod Compute
+pub mod First
+pub mod Formed
+pub mod Table
+pub mod Judged
+pub mod Simplify
+pub mod Fills
+pub mod Earlier
