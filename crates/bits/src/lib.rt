@@ -1,0 +1,124 @@
+// A bit cursor by value over bytes, most significant bit first: takes fields out of bytes, and puts fields into them.
+ghost use mathlib.Core.Path.{_≡_};
+ghost use Prim.Native.Nat.{_%_, _^_, _≤_, _<_};
+ghost use lib.ListN.{set};
+ghost use Rattle.bits.specs.Bits.{byteAt, roomOf, fits, readField};
+ghost use Rattle.bits.specs.Put.{placeAfter, putField};
+ghost use Rattle.bits.specs.Window.{windowAt, withWindow, woven};
+
+// Where the next field begins, counted in bits from the first bit.
+pub struct Cursor {
+    pub at: usize,
+}
+
+// What stands at a cursor: a field's value and the cursor past it; or `Past`, where the field begins or runs past the end.
+// A field of more than 16 bits is never there.
+pub enum Field {
+    Got(u16, Cursor),
+    Past,
+}
+
+// How many bits there are, counted up to 2 ^ 32.
+fn room(s: &[u8]) -> usize
+    ensures { λ r. ⌜ r ≡ roomOf (now (s .entry)) ⌝ }
+{
+    if s.len() < 536870912 {
+        8 * s.len()
+    } else {
+        4294967296
+    }
+}
+
+// Whether a field has at most 16 bits and lies within the bytes.
+fn has_room(s: &[u8], w: usize, at: usize) -> bool
+    ensures { λ r. ⌜ r ≡ fits (now (s .entry)) w at ⌝ }
+{
+    if w > 16 {
+        return false;
+    }
+    let end = room(s);
+    if end < w {
+        return false;
+    }
+    if at > end - w {
+        return false;
+    }
+    true
+}
+
+// The byte at a place, 0 past the end.
+fn byte_at(s: &[u8], i: usize) -> u64
+    ensures { λ r. ⌜ (r ≡ byteAt (now (s .entry)) i) × (r < 256) ⌝ }
+{
+    if i < s.len() { s[i] as u64 } else { 0 }
+}
+
+// The three bytes from a place on, as one number.
+fn window(s: &[u8], k: usize) -> u64
+    requires { ⌜ k < 2 ^ 32 ⌝ }
+    ensures { λ r. ⌜ (r ≡ windowAt (now (s .entry)) k) × (r < 2 ^ 24) ⌝ }
+{
+    byte_at(s, k) * 65536 + byte_at(s, k + 1) * 256 + byte_at(s, k + 2)
+}
+
+// The low byte of x stored at a place, if there is one.
+fn store(out: &mut [u8], i: usize, x: u64)
+    ensures { λ _. ⌜ now (out .exit) ≡ set (now (out .entry)) i (x % 256) ⌝ }
+{
+    if i < out.len() {
+        out[i] = (x % 256) as u8;
+    }
+}
+
+// The three low bytes of x stored from a place on, as far as there are places.
+fn store_window(out: &mut [u8], k: usize, x: u64)
+    requires { ⌜ k < 2 ^ 32 ⌝ }
+    ensures { λ _. ⌜ now (out .exit) ≡ withWindow (now (out .entry)) k x ⌝ }
+{
+    store(out, k, x / 65536);
+    store(out, k + 1, x / 256);
+    store(out, k + 2, x);
+}
+
+// Three bytes with the w low bits of v put in at bit p, and zeros after them up to the next whole byte.
+fn weave(x: u64, p: usize, w: usize, v: u16) -> u64
+    requires { ⌜ (x < 2 ^ 24) × (p < 8) × (w ≤ 16) ⌝ }
+    ensures { λ r. ⌜ r ≡ woven x p w v ⌝ }
+{
+    let head = ((x >> (24 - p)) << w) + (v as u64) % (1 << w);
+    let rest = x % (1 << (24 - (p + w + 7) / 8 * 8));
+    (head << (24 - p - w)) + rest
+}
+
+impl Cursor {
+    // The field of w bits that begins here.
+    pub fn take(self, w: usize, s: &[u8]) -> Field
+        ensures { λ r. ⌜ r ≡ readField (now (s .entry)) w (self .at) ⌝ }
+    {
+        let at = self.at;
+        if has_room(s, w, at) {
+            let x = window(s, at / 8);
+            let v = (x >> (24 - at % 8 - w)) % (1 << w);
+            Field::Got(v as u16, Cursor { at: at + w })
+        } else {
+            Field::Past
+        }
+    }
+
+    // The w low bits of v put in here, with zeros after them up to the next whole byte, and the cursor past them.
+    // Where they do not fit, nothing is changed and the cursor stays.
+    pub fn put(self, w: usize, v: u16, out: &mut [u8]) -> Cursor
+        ensures { λ r. ⌜ (r .at ≡ placeAfter (now (out .entry)) w (self .at)) × (now (out .exit) ≡ putField (now (out .entry)) w v (self .at)) ⌝ }
+    {
+        let at = self.at;
+        if has_room(out, w, at) {
+            let k = at / 8;
+            let x = window(out, k);
+            let y = weave(x, at % 8, w, v);
+            store_window(out, k, y);
+            Cursor { at: at + w }
+        } else {
+            self
+        }
+    }
+}
