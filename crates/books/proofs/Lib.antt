@@ -1,0 +1,4 @@
+-- The laws of the walk over a book.
+pub mod Counting
+pub mod Lookup
+pub mod Whole

@@ -1,0 +1,2 @@
+-- What the walk over a book notes.
+pub mod Counts

@@ -1,0 +1,3 @@
+-- The laws of the walk over certificates.
+pub mod Cases
+pub mod Results

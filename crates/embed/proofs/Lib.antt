@@ -1,0 +1,2 @@
+-- The laws of the answers as numbers.
+pub mod Telling

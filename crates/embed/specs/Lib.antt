@@ -1,0 +1,2 @@
+-- The answers of reading and writing as numbers.
+pub mod Numbers

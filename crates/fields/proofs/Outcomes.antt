@@ -1,0 +1,32 @@
+-- A run with outputs tells the outcome without them.
+use Prim.Native.Nat.{ℕ}
+use mathlib.Core.Path.{_≡_, refl, sym, _∙_}
+use mathlib.Core.List.{List}
+use native.Mathlib.Omega.{arith}
+use Rattle.fields.specs.declared.Cursor.{Cursor}
+use Rattle.fields.specs.Source.{Source}
+use Rattle.fields.specs.Grammar.{Grammar, Outcome, outcome, trace}
+use Rattle.fields.specs.Grammar.Outcome.{ok, no}
+use Rattle.fields.specs.Run.{State, state, Result, run}
+use Rattle.fields.proofs.Sinks.{sets, puts, sunk, run-sunk}
+
+module _ {A : Type 0} (src : Source) (p : Grammar A) (c : Cursor) (ws bs : List ℕ) where
+  pub outcome-of-ok : {a : A} {τ : State} → run src p (state c ws bs) ≡ Result.ok a τ → outcome src p c ≡ ok a (τ .cursor)
+  outcome-of-ok {a} {τ} e = go (outcome src p c) _ _ (sym (run-sunk src p c ws bs) ∙ e)
+    where
+      go : (o : Outcome A) (us vs : List ℕ) → sunk o us vs ≡ Result.ok a τ → o ≡ ok a (τ .cursor)
+      go (ok b d) us vs q =
+          let p : b ≡ a = cc in
+          let s : state d us vs ≡ τ = cc in
+          λ i. ok (p i) ((s i) .cursor)
+      go (no m d) us vs q = let z : _≡_ {A = ℕ} 0 1 = cc in absurd (omega arith)
+
+  pub outcome-of-no : {m : ℕ} {τ : State} → run src p (state c ws bs) ≡ Result.no m τ → outcome src p c ≡ no m (τ .cursor)
+  outcome-of-no {m} {τ} e = go (outcome src p c) _ _ (sym (run-sunk src p c ws bs) ∙ e)
+    where
+      go : (o : Outcome A) (us vs : List ℕ) → sunk o us vs ≡ Result.no m τ → o ≡ no m (τ .cursor)
+      go (ok b d) us vs q = let z : _≡_ {A = ℕ} 0 1 = cc in absurd (omega arith)
+      go (no k d) us vs q =
+          let p : k ≡ m = cc in
+          let s : state d us vs ≡ τ = cc in
+          λ i. no (p i) ((s i) .cursor)

@@ -1,0 +1,5 @@
+-- Sources of fields, grammars over them, and runs of grammars.
+pub mod Source
+pub mod Grammar
+pub mod Run
+pub mod Spells

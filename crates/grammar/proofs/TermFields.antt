@@ -1,0 +1,450 @@
+-- The grammar of terms spells just the terms within the limits, each by its own fields.
+use Prim.Native.Nat.{ℕ, zero, suc, _+_, _-_, _≤_, _<_}
+use mathlib.Core.Path.{_≡_, refl, sym, ap}
+use mathlib.Core.Logic.{_≢_}
+use mathlib.Core.List.{List, [], _∷_}
+use mathlib.Core.Option.{Option, none, some}
+use mathlib.Core.Bool.{Bool, true, false, cond}
+use native.Mathlib.Omega.{arith}
+use lib.ListN.{length}
+use lib.Dec.{eqb, leb, eqb·suc-zero}
+use borrow.Author.Tests.{eqb-true, eqb-false, leb-true, eq-eqb, ne-eqb, le-leb}
+use Rattle.patterns.specs.Term.{Terms, var, fun, pow, nil, cons, size, size*}
+use Rattle.patterns.specs.Counters.{more, alone}
+use Rattle.patterns.specs.Normal.{Over, Normal, Normal*}
+use Rattle.patterns.specs.Formed.{arguments, Formed, Formed*}
+use Rattle.patterns.specs.Every.{Every}
+use Rattle.patterns.specs.First.{Exp, ex, Pattern, exponents}
+use Rattle.fields.specs.Grammar.{Grammar, done, stop, bind, field}
+use Rattle.fields.specs.Spells.{Spells}
+use Rattle.grammar.specs.Terms.{symbol-test, a-symbol, unary-test, a-unary, an-exponent, Grown, GrownAll, args-of, a-variable, an-applied, a-raise, a-raised, a-node, a-term, any-term, root-term}
+use Rattle.grammar.specs.Books.{arity-in}
+use Rattle.grammar.specs.Limits.{Ranged, Ranged*, TermFits, Rooted, RootFits}
+use Rattle.grammar.specs.Listing.{Fields, term-fields, terms-fields}
+use Rattle.grammar.proofs.Exactness.{Exactly, refit, same, ask-exactly, field-exactly, done-exactly, made, after, both}
+
+-- ---- the arities
+
+-- a list of arities as a rule book has it
+pub record Signature (arities : List ℕ) : Type 0 where
+  pub small : Every (λ a. a ≤ 8) arities
+  pub count : length arities < 256
+
+listed-arity : (arities : List ℕ) → Every (λ a. a ≤ 8) arities → (f : ℕ) → f < length arities → arity-in arities f ≤ 8
+unfolding Every arity-in
+listed-arity [] h f k = absurd (omega arith)
+listed-arity (a ∷ l) h zero k = h .0
+listed-arity (a ∷ l) h (suc f) k = listed-arity l (h .1) f (omega arith)
+
+known-symbol : (arities : List ℕ) (f : ℕ) → arity-in arities f ≤ 8 → f < length arities
+unfolding arity-in
+known-symbol [] f k = absurd (omega arith)
+known-symbol (a ∷ l) zero k = omega arith
+known-symbol (a ∷ l) (suc f) k = let r = known-symbol l f k in omega arith
+
+-- ---- a symbol's field and a power's fields
+
+no-path : {A : Type 0} {m : ℕ} → some m ≡ none → A
+no-path p = let z : _≡_ {A = ℕ} 0 1 = cc in absurd (omega arith)
+
+symbol-passed : (ar : ℕ → ℕ) (f : ℕ) → symbol-test ar f ≡ none → (ar f ≢ 1) × (ar f ≤ 8)
+unfolding symbol-test
+symbol-passed ar f p = go (eqb (ar f) 1) (leb (ar f) 8) refl refl p
+  where
+    go : (b c : Bool) → eqb (ar f) 1 ≡ b → leb (ar f) 8 ≡ c → cond {A = Option ℕ} b (some 4) (cond c none (some 4)) ≡ none
+        → (ar f ≢ 1) × (ar f ≤ 8)
+    go true c e d q = no-path q
+    go false true e d q = (eqb-false (ar f) 1 e, leb-true (ar f) 8 d)
+    go false false e d q = no-path q
+
+unary-passed : (ar : ℕ → ℕ) (above s : ℕ) → unary-test ar above s ≡ none → (ar s ≡ 1) × (above ≢ s)
+unfolding unary-test
+unary-passed ar above s p = go (eqb (ar s) 1) (eqb s above) refl refl p
+  where
+    go : (b c : Bool) → eqb (ar s) 1 ≡ b → eqb s above ≡ c → cond {A = Option ℕ} b (cond c (some 5) none) (some 4) ≡ none
+        → (ar s ≡ 1) × (above ≢ s)
+    go true true e d q = no-path q
+    go true false e d q = (eqb-true (ar s) 1 e, λ z. eqb-false s above d (sym z))
+    go false c e d q = no-path q
+
+nonzero-forth : (a b : ℕ) → cond (eqb a 0) 1 0 ≤ b → ex a b ≢ ex 0 0
+nonzero-forth zero b h p = let e : b ≡ 0 = ap (λ (x : Exp). x .1) p in omega arith
+nonzero-forth (suc a) b h p = let e : suc a ≡ 0 = ap (λ (x : Exp). x .0) p in omega arith
+
+nonzero-back : (a b : ℕ) → ex a b ≢ ex 0 0 → cond (eqb a 0) 1 0 ≤ b
+nonzero-back zero zero h = absurd (h refl)
+nonzero-back zero (suc b) h = omega arith
+nonzero-back (suc a) b h = rw (eqb·suc-zero a) (omega arith)
+
+pub exponent-exactly : (end : ℕ) → end ≤ 4096
+    → Exactly (an-exponent end) (λ e. (e .0 < end) × (e .1 < 4096) × (e ≢ ex 0 0)) (λ e. (12, e .0) ∷ (12, e .1) ∷ [])
+unfolding an-exponent
+exponent-exactly end h =
+    both
+    (field-exactly 12 0 end 4 (omega arith))
+    (λ a k. field-exactly 12 (cond (eqb a 0) 1 0) 4096 5 (omega arith))
+    (λ a b. (a, b))
+    (λ a b k l. ((k .1, l .1, nonzero-forth a b (l .0)), refl))
+    (λ e k. (e .0, e .1, (omega arith, k .0), (nonzero-back (e .0) (e .1) (k .2), k .1), refl))
+
+-- a power's symbol and exponent, below the symbol `above`
+unfoldable pub Raises : List ℕ → ℕ → ℕ → ℕ × Exp → Type 0
+Raises arities end above p =
+    (arity-in arities (p .0) ≡ 1) × (p .0 < length arities) × (above ≢ p .0) × (p .1 .0 < end) × (p .1 .1 < 4096) × (p .1 ≢ ex 0 0)
+
+module _ (arities : List ℕ) (sig : Signature arities) where
+  pub symbol-exactly : Exactly (a-symbol (arity-in arities)) (λ f. (arity-in arities f ≢ 1) × (f < length arities)) (λ f. (8, f) ∷ [])
+  unfolding a-symbol symbol-test
+  symbol-exactly =
+      refit
+      (ask-exactly 8 (symbol-test (arity-in arities)))
+      (λ f h. let r = symbol-passed (arity-in arities) f (h .1) in (r .0, known-symbol arities f (r .1)))
+      (λ f h. let c = sig .count in
+      (omega arith, rw (ne-eqb _ _ (h .0), le-leb _ _ (listed-arity arities (sig .small) f (h .1)))))
+
+  pub raise-exactly : (end above : ℕ) → end ≤ 4096
+      → Exactly (a-raise (arity-in arities) end above) (Raises arities end above) (λ p. (8, p .0) ∷ (12, p .1 .0) ∷ (12, p .1 .1) ∷ [])
+  unfolding a-raise a-unary Raises unary-test
+  raise-exactly end above h =
+      both
+      (ask-exactly 8 (unary-test (arity-in arities) above))
+      (λ s k. exponent-exactly end h)
+      (λ s e. (s, e))
+      (λ s e k l.
+      let r = unary-passed (arity-in arities) above s (k .1) in
+      let a = r .0 in
+      ((a, known-symbol arities s (omega arith), r .1, l .0, l .1, l .2), refl))
+      (λ p k.
+      let c = sig .count in
+      let l = k .1 in
+      (p .0, p .1, (omega arith, rw (eq-eqb _ _ (k .0), ne-eqb _ _ (λ z. k .2 (sym z)))), (k .3, k .4, k .5), refl))
+
+-- ---- nodes
+
+size-positive : (t : Pattern) → 1 ≤ size t
+unfolding size
+size-positive (var x) = omega arith
+size-positive (fun f ts) = omega arith
+size-positive (pow s e t) = omega arith
+
+-- the root's tag, and the fields behind it
+unfoldable pub tag : Pattern → ℕ
+tag (var x) = 0
+tag (fun f ts) = 1
+tag (pow s e t) = 2
+
+unfoldable pub behind-tag : Pattern → Fields
+behind-tag (var x) = (6, x) ∷ []
+behind-tag (fun f ts) = (8, f) ∷ terms-fields ts
+behind-tag (pow s e t) = (8, s) ∷ (12, e .0) ∷ (12, e .1) ∷ term-fields t
+
+tag-before : (t : Pattern) → (2, tag t) ∷ behind-tag t ≡ term-fields t
+unfolding tag behind-tag term-fields
+tag-before (var x) = refl
+tag-before (fun f ts) = refl
+tag-before (pow s e t) = refl
+
+tag-below : (t : Pattern) → tag t < 3
+unfolding tag
+tag-below (var x) = omega arith
+tag-below (fun f ts) = omega arith
+tag-below (pow s e t) = omega arith
+
+module _ (arities : List ℕ) (end : ℕ) where
+  -- what the grammar of a term gives: a term within the limits that takes all but `g .left` of the nodes allowed
+  pub record Grows (above left : ℕ) (g : Grown) : Type 0 where
+    pub room : g .left + size (g .term) ≡ left
+    pub normal : Normal exponents (g .term)
+    pub free : ¬ (Over above (g .term))
+    pub formed : Formed (arity-in arities) (g .term)
+    pub ranged : Ranged (length arities) end (g .term)
+
+  pub record GrowsAll (n left : ℕ) (g : GrownAll) : Type 0 where
+    pub room : g .left + size* (g .terms) ≡ left
+    pub normal : Normal* exponents (g .terms)
+    pub formed : Formed* (arity-in arities) (g .terms)
+    pub ranged : Ranged* (length arities) end (g .terms)
+    pub count : arguments (g .terms) ≡ n
+
+  -- a node of the tag n, and what stands below it
+  unfoldable pub Node : ℕ → ℕ → ℕ → Grown → Type 0
+  Node n above left g = (tag (g .term) ≡ n) × Grows above (suc left) g
+
+abbrev grown : Pattern → ℕ → Grown
+grown t left = record { term = t; left = left }
+
+abbrev grown-all : Terms Exp → ℕ → GrownAll
+grown-all ts left = record { terms = ts; left = left }
+
+abbrev pub grown-fields : Grown → Fields
+grown-fields g = term-fields (g .term)
+
+abbrev pub all-fields : GrownAll → Fields
+all-fields g = terms-fields (g .terms)
+
+unfoldable pub below-tag : Grown → Fields
+below-tag g = behind-tag (g .term)
+
+-- a symbol of the table is none of the power above, if that is 256
+free-of-256 : (count end : ℕ) → count < 256 → (t : Pattern) → Ranged count end t → ¬ (Over 256 t)
+unfolding Ranged Over
+free-of-256 count end h (var x) r o = o
+free-of-256 count end h (fun f ts) r o = o
+free-of-256 count end h (pow s e t) r o = let l = r .0 in omega arith
+
+module _ (arities : List ℕ) (sig : Signature arities) (end : ℕ) (low : end ≤ 4096) where
+  pub variable-exactly : (above left : ℕ) → Exactly (a-variable left) (Node arities end 0 above left) below-tag
+  unfolding a-variable Node below-tag behind-tag tag size Normal Over Formed Ranged
+  variable-exactly above left =
+      made
+      (field-exactly 6 0 64 4 (omega arith))
+      (λ x. grown (var x) left)
+      (λ x h. ((refl, record { room = omega arith; normal = tt; free = λ z. z; formed = tt; ranged = h .1 }), refl))
+      (λ g h. onto (g .term) (g .left) (h .0) (h .1))
+    where
+      onto : (t : Pattern) (k : ℕ) → tag t ≡ 0 → Grows arities end above (suc left) (grown t k)
+          → (x : ℕ) × ((0 ≤ x) × (x < 64)) × (grown (var x) left ≡ grown t k)
+      onto (var x) k e h =
+          let r = h .room in
+          let p : left ≡ k = omega arith in
+          (x, (omega arith, h .ranged), ap (grown (var x)) p)
+      onto (fun f ts) k e h = absurd (omega arith)
+      onto (pow s d t) k e h = absurd (omega arith)
+
+  -- arguments, by a grammar of terms that is good up to `deep` nodes
+  module _ (term : ℕ → ℕ → Grammar Grown) (deep : ℕ) (good : (above left : ℕ) → left ≤ deep → Exactly (term above left) (Grows arities end above left) grown-fields) where
+    pub args-exactly : (n left : ℕ) → left ≤ deep → Exactly (args-of (term 256) n left) (GrowsAll arities end n left) all-fields
+    unfolding args-of terms-fields arguments size Normal Formed Ranged
+    args-exactly zero left h =
+        done-exactly
+        (record { room = omega arith; normal = tt; formed = tt; ranged = tt; count = refl })
+        refl
+        (λ g k. only (g .terms) (g .left) k)
+      where
+        only : (ts : Terms Exp) (k : ℕ) → GrowsAll arities end zero left (grown-all ts k) → grown-all ts k ≡ grown-all nil left
+        only nil k g = let r = g .room in let p : k ≡ left = omega arith in ap (grown-all nil) p
+        only (cons t ts) k g = let c = g .count in absurd (omega arith)
+    args-exactly (suc n) left h =
+        both
+        (good 256 left h)
+        (λ g k. let r = k .room in args-exactly n (g .left) (omega arith))
+        (λ g l. grown-all (cons (g .term) (l .terms)) (l .left))
+        (λ g l k m. (
+          record {
+            room = (let a = k .room in let b = m .room in omega arith);
+            normal = (k .normal, m .normal);
+            formed = (k .formed, m .formed);
+            ranged = (k .ranged, m .ranged);
+            count = ap suc (m .count);
+          },
+          refl,
+        ))
+        (λ g k. onto (g .terms) (g .left) k)
+      where
+        onto : (ts : Terms Exp) (k : ℕ) → GrowsAll arities end (suc n) left (grown-all ts k)
+            → (g : Grown) × (l : GrownAll) × Grows arities end 256 left g × GrowsAll arities end n (g .left) l
+            × (grown-all (cons (g .term) (l .terms)) (l .left) ≡ grown-all ts k)
+        onto nil k g = let c = g .count in absurd (omega arith)
+        onto (cons t ts) k g =
+            let r = g .room in
+            let c = g .count in (
+              grown t (k + size* ts),
+              grown-all ts k,
+              record {
+                room = omega arith;
+                normal = g .normal .0;
+                free = free-of-256 (length arities) end (sig .count) t (g .ranged .0);
+                formed = g .formed .0;
+                ranged = g .ranged .0;
+              },
+              record { room = refl; normal = g .normal .1; formed = g .formed .1; ranged = g .ranged .1; count = omega arith },
+              refl,
+            )
+
+    pub applied-exactly : (above left : ℕ) → left ≤ deep
+        → Exactly (an-applied term (arity-in arities) left) (Node arities end 1 above left) below-tag
+    unfolding an-applied Node below-tag behind-tag tag size Normal Over Formed Ranged
+    applied-exactly above left h =
+        both
+        (symbol-exactly arities sig)
+        (λ f k. args-exactly (arity-in arities f) left h)
+        (λ f g. grown (fun f (g .terms)) (g .left))
+        (λ f g k m. (
+          (
+            refl,
+            record {
+              room = (let r = m .room in omega arith);
+              normal = m .normal;
+              free = λ z. z;
+              formed = (k .0, m .count, m .formed);
+              ranged = (k .1, m .ranged);
+            },
+          ),
+          refl,
+        ))
+        (λ g k. onto (g .term) (g .left) (k .0) (k .1))
+      where
+        onto : (t : Pattern) (k : ℕ) → tag t ≡ 1 → Grows arities end above (suc left) (grown t k)
+            → (f : ℕ) × (g : GrownAll) × ((arity-in arities f ≢ 1) × (f < length arities))
+            × GrowsAll arities end (arity-in arities f) left g × (grown (fun f (g .terms)) (g .left) ≡ grown t k)
+        onto (var x) k e g = absurd (omega arith)
+        onto (fun f ts) k e g =
+            let r = g .room in (
+              f,
+              grown-all ts k,
+              (g .formed .0, g .ranged .0),
+              record { room = omega arith; normal = g .normal; formed = g .formed .2; ranged = g .ranged .1; count = g .formed .1 },
+              refl,
+            )
+        onto (pow s d t) k e g = absurd (omega arith)
+
+    pub raised-exactly : (above left : ℕ) → left ≤ deep
+        → Exactly (a-raised term (arity-in arities) end above left) (Node arities end 2 above left) below-tag
+    unfolding a-raised Node Raises below-tag behind-tag tag size Normal Over Formed Ranged exponents more alone
+    raised-exactly above left h =
+        both
+        (raise-exactly arities sig end above low)
+        (λ p k. good (p .0) left h)
+        (λ p g. grown (pow (p .0) (p .1) (g .term)) (g .left))
+        (λ p g k m. (
+          (
+            refl,
+            record {
+              room = (let r = m .room in omega arith);
+              normal = (k .5, m .free, m .normal);
+              free = k .2;
+              formed = (k .0, m .formed);
+              ranged = (k .1, k .3, k .4, m .ranged);
+            },
+          ),
+          refl,
+        ))
+        (λ g k. onto (g .term) (g .left) (k .0) (k .1))
+      where
+        onto : (t : Pattern) (k : ℕ) → tag t ≡ 2 → Grows arities end above (suc left) (grown t k)
+            → (p : ℕ × Exp) × (g : Grown) × Raises arities end above p × Grows arities end (p .0) left g
+            × (grown (pow (p .0) (p .1) (g .term)) (g .left) ≡ grown t k)
+        onto (var x) k e g = absurd (omega arith)
+        onto (fun f ts) k e g = absurd (omega arith)
+        onto (pow s d t) k e g =
+            let r = g .room in (
+              (s, d),
+              grown t k,
+              (g .formed .0, g .ranged .0, g .free, g .ranged .1, g .ranged .2, g .normal .0),
+              record {
+                room = omega arith;
+                normal = g .normal .2;
+                free = g .normal .1;
+                formed = g .formed .1;
+                ranged = g .ranged .3;
+              },
+              refl,
+            )
+
+    pub node-exactly : (above left : ℕ) → left ≤ deep → (n : ℕ) → n < 3
+        → Exactly (a-node term (arity-in arities) end above left n) (Node arities end n above left) below-tag
+    unfolding a-node
+    node-exactly above left h zero k = variable-exactly above left
+    node-exactly above left h (suc zero) k = applied-exactly above left h
+    node-exactly above left h (suc (suc zero)) k = raised-exactly above left h
+    node-exactly above left h (suc (suc (suc n))) k = absurd (omega arith)
+
+    -- a node, its tag from `least` on
+    pub tagged-exactly : (least above left : ℕ) → left ≤ deep
+        → Exactly (bind (field 2 least 3 4) (a-node term (arity-in arities) end above left)) (λ g. Grows arities end above (suc left) g × (least ≤ tag (g .term))) grown-fields
+    unfolding Node below-tag
+    tagged-exactly least above left h =
+        after
+        (field-exactly 2 least 3 4 (omega arith))
+        (λ n k. node-exactly above left h n (k .1))
+        (λ n g k m. let l = k .0 in let e = m .0 in ((m .1, omega arith), (cc (e, tag-before (g .term)))))
+        (λ g t. (tag (g .term), (t .1, tag-below (g .term)), (refl, t .0)))
+
+  -- no node is left
+  none-left : (least above left : ℕ) → left ≡ 0 → Exactly (stop 6) (λ g. Grows arities end above left g × (least ≤ tag (g .term))) grown-fields
+  unfolding Spells
+  none-left least above left h = record {
+    forth = λ g fs s. absurd s;
+    back = λ g t. let r = t .0 .room in absurd (omega (arith, size-positive (g .term)));
+  }
+
+  -- the grammar of terms where nodes are left
+  node-next : (deep : ℕ) (ar : ℕ → ℕ) (least above left : ℕ)
+      → bind (field 2 least 3 4) (a-node (λ s k. a-term deep ar end 0 s k) ar end above left) ≡ a-term (suc deep) ar end least above (suc left)
+  unfolding a-term
+  node-next deep ar least above left =
+      let e : suc left - 1 ≡ left = omega arith in
+      rw (eqb·suc-zero left, e)
+
+  -- a term in which `left` nodes are allowed, its tag from `least` on
+  pub term-exactly : (deep least above left : ℕ) → left ≤ deep
+      → Exactly (a-term deep (arity-in arities) end least above left) (λ g. Grows arities end above left g × (least ≤ tag (g .term))) grown-fields
+  unfolding a-term
+  term-exactly zero least above left h = none-left least above left (omega arith)
+  term-exactly (suc deep) least above zero h = none-left least above zero refl
+  term-exactly (suc deep) least above (suc left) h =
+      same
+      (node-next deep (arity-in arities) least above left)
+      (tagged-exactly
+      (λ s k. a-term deep (arity-in arities) end 0 s k)
+      deep
+      (λ s k l. refit (term-exactly deep 0 s k l) (λ g t. t .0) (λ g t. (t, omega arith)))
+      least
+      above
+      left
+      (omega arith))
+
+-- ---- whole terms
+
+abbrev pub pattern-of : Grammar Grown → Grammar Pattern
+pattern-of p = bind p λ g. done (g .term)
+
+rooted-forth : (t : Pattern) → 1 ≤ tag t → Rooted t
+unfolding tag Rooted
+rooted-forth (var x) h = omega arith
+rooted-forth (fun f ts) h = tt
+rooted-forth (pow s e t) h = tt
+
+rooted-back : (t : Pattern) → Rooted t → 1 ≤ tag t
+unfolding tag Rooted
+rooted-back (var x) h = absurd h
+rooted-back (fun f ts) h = omega arith
+rooted-back (pow s e t) h = omega arith
+
+module _ (arities : List ℕ) (end : ℕ) where
+  pub grown-fits : (g : Grown) → Grows arities end 256 256 g → TermFits arities end (g .term)
+  grown-fits g h = record {
+    normal = h .normal;
+    small = (let r = h .room in omega arith);
+    formed = h .formed;
+    ranged = h .ranged;
+  }
+
+  pub fits-grown : (t : Pattern) → length arities < 256 → TermFits arities end t
+      → Grows arities end 256 256 (record { term = t; left = 256 - size t })
+  fits-grown t c h = record {
+    room = (let s = h .small in omega arith);
+    normal = h .normal;
+    free = free-of-256 (length arities) end c t (h .ranged);
+    formed = h .formed;
+    ranged = h .ranged;
+  }
+
+module _ (arities : List ℕ) (sig : Signature arities) where
+  pub any-exactly : Exactly (pattern-of (any-term (arity-in arities))) (TermFits arities 4096) term-fields
+  unfolding any-term
+  any-exactly =
+      made
+      (term-exactly arities sig 4096 (omega arith) 256 0 256 256 (omega arith))
+      (λ g. g .term)
+      (λ g h. (grown-fits arities 4096 g (h .0), refl))
+      (λ t h. (grown t (256 - size t), (fits-grown arities 4096 t (sig .count) h, omega arith), refl))
+
+  pub root-exactly : Exactly (pattern-of (root-term (arity-in arities))) (RootFits arities) term-fields
+  unfolding root-term
+  root-exactly =
+      made
+      (term-exactly arities sig 1 (omega arith) 256 1 256 256 (omega arith))
+      (λ g. g .term)
+      (λ g h. (record { fits = grown-fits arities 1 g (h .0); rooted = rooted-forth (g .term) (h .1) }, refl))
+      (λ t h. (grown t (256 - size t), (fits-grown arities 1 t (sig .count) (h .fits), rooted-back t (h .rooted)), refl))

@@ -1,0 +1,69 @@
+-- What the code answers, by what reading or writing gives.
+use Prim.Native.Nat.{ℕ, _<_, _≤_}
+use mathlib.Core.Path.{_≡_, refl, sym, _∙_, ap}
+use mathlib.Core.List.{List, _++_}
+use mathlib.Core.Bool.{cond}
+use native.Mathlib.Omega.{arith}
+use borrow.Author.Tests.{lt-ltb, le-ltb}
+use lib.ListN.{length, drop}
+use lib.Dec.{ltb}
+use Rattle.patterns.specs.Refusal.{Refusal}
+use Rattle.layout.specs.declared.Answer.{Answer}
+use Rattle.layout.specs.declared.Answer.the-variants.{Filled, Refused}
+use Rattle.layout.specs.declared.Opening.{Opening}
+use Rattle.layout.specs.declared.Opening.the-variants.{Open, Shut}
+use Rattle.layout.specs.declared.Refusal.{Refusal as Fault}
+use Rattle.layout.specs.Files.{Opened, good, bad, refusal-at}
+use Rattle.layout.specs.Answers.{Given, gives, refuses, Told, filled-with, refused-with, told, output, paper-refusal, paper}
+use Rattle.layout.specs.Openings.{Sight, sees, shut, sight, seen}
+use Rattle.bits.specs.Packed.{width}
+
+-- the two promises of a function that reads or writes
+abbrev pub Answers : ℕ → Given → Answer → List ℕ → List ℕ → Type 0
+Answers w g r before after = (paper r ≡ told w g (length before)) × (after ≡ output g before)
+
+module _ (w : ℕ) (g : Given) (out : List ℕ) where
+  pub answers-refusal : (r : Answer) {q : Refusal} → g ≡ refuses q → paper r ≡ refused-with q → Answers w g r out out
+  unfolding told output
+  answers-refusal r e p = (p ∙ rw e, rw e)
+
+  -- a refusal that was handed on
+  pub answers-shut : (q : Fault) → g ≡ refuses (paper-refusal q) → Answers w g (Refused q) out out
+  unfolding paper
+  answers-shut q e = answers-refusal (Refused q) e refl
+
+  pub answers-short : (r : Answer) {places : List ℕ} → g ≡ gives places → length out < length places
+      → paper r ≡ refused-with (refusal-at 8 w 0) → Answers w g r out out
+  unfolding told output
+  answers-short r {places} e h p =
+      (p ∙ rw (e, lt-ltb (length out) (length places) h), rw (e, lt-ltb (length out) (length places) h))
+
+  pub answers-filled : {places after : List ℕ} {n : ℕ} → g ≡ gives places → length places ≤ length out → n ≡ length places
+      → after ≡ places ++ drop (length places) out → Answers w g (Filled n) out after
+  unfolding told output paper
+  answers-filled {places} e h p q =
+      (ap filled-with p ∙ rw (e, le-ltb (length out) (length places) h), q ∙ rw (e, le-ltb (length out) (length places) h))
+
+-- ---- an opening, by what was seen
+
+pub opening-shut : {A : Type 0} (val : A → ℕ) (x : Opened A) {o : Opening} {r : Fault} → sight o ≡ seen val x → o ≡ Shut r
+    → x ≡ bad (paper-refusal r)
+unfolding sight seen
+opening-shut val (good a fs) h e = let q = sym (ap sight e) ∙ h in let z : _≡_ {A = ℕ} 0 1 = cc q in absurd (omega arith)
+opening-shut val (bad k) h e = let q = sym (ap sight e) ∙ h in cc q
+
+pub record Good {A : Type 0} (val : A → ℕ) (x : Opened A) (v n k : ℕ) : Type 0 where
+  pub tree : A
+  pub fields : List (ℕ × ℕ)
+  pub is : x ≡ good tree fields
+  pub value : val tree ≡ v
+  pub many : length fields ≡ n
+  pub wide : width fields ≡ k
+
+pub opening-good : {A : Type 0} (val : A → ℕ) (x : Opened A) {o : Opening} {v n k : ℕ} → sight o ≡ seen val x → o ≡ Open v n k
+    → Good val x v n k
+unfolding sight seen
+opening-good val (good a fs) h e =
+    let q = sym (ap sight e) ∙ h in
+    record { tree = a; fields = fs; is = refl; value = cc q; many = cc q; wide = cc q }
+opening-good val (bad k) h e = let q = sym (ap sight e) ∙ h in let z : _≡_ {A = ℕ} 0 1 = cc q in absurd (omega arith)

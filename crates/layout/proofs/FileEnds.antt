@@ -1,0 +1,179 @@
+-- How the end of a file is looked at, and what a walk over a whole file comes to.
+use Prim.Native.Nat.{ℕ, _+_, _-_, _*_, _/_, _<_, _≤_, _^_, min}
+use mathlib.Core.Path.{_≡_, refl, sym, _∙_, ap, ap₂, subst}
+use mathlib.Core.List.{List, []}
+use mathlib.Core.Bool.{Bool, true, false, _&&_, cond}
+use mathlib.Core.Logic.{_≢_}
+use native.Mathlib.Omega.{arith}
+use borrow.Author.Tests.{eq-eqb, ne-eqb}
+use lib.ListN.{length}
+use lib.Dec.{eqb}
+use Rattle.bits.specs.declared.Field.{Field as Bits}
+use Rattle.bits.specs.declared.Field.the-variants.{Got, Past}
+use Rattle.bits.specs.Bits.{bitsAt, roomOf, readField}
+use Rattle.bits.specs.Packed.{width, bytesFor}
+use Rattle.bits.proofs.Fitting.{read-yes}
+use Rattle.fields.specs.declared.Cursor.{Cursor}
+use Rattle.fields.specs.declared.Walk.{Walk}
+use Rattle.fields.specs.declared.Walk.the-variants.{On, No}
+use Rattle.fields.specs.Source.{Source, from}
+use Rattle.fields.specs.Grammar.{Grammar, Outcome, outcome, trace}
+use Rattle.fields.specs.Grammar.Outcome.{ok, no}
+use Rattle.fields.specs.Run.{state, Result, run, Shown, shown, Ran}
+use Rattle.fields.proofs.Sinks.{sets, puts, sunk, run-sunk}
+use Rattle.fields.proofs.Found.{end-room}
+use Rattle.fields.proofs.Trips.{end-bit, end-n}
+use Rattle.books.specs.Counts.{start}
+use Rattle.layout.specs.Files.{Opened, good, bad, refusal-at, ends-at, closed-bytes, open-bytes, closed-list, open-list}
+use Rattle.layout.specs.declared.Place.{Place}
+use Rattle.layout.specs.declared.Opening.the-variants.{Open, Shut}
+use Rattle.layout.specs.Answers.{w-of, paper-refusal}
+use Rattle.layout.specs.Openings.{Sight, sees, shut, sight, seen, seen-bytes, seen-list, bits-of}
+
+-- ---- the last byte
+
+module _ (s : List ℕ) (bit : ℕ) where
+  pub ends-long : length s ≢ (bit + 7) / 8 → ends-at s bit ≡ false
+  unfolding ends-at
+  ends-long h = rw (ne-eqb (length s) (bytesFor bit) h)
+
+  pub ends-read : length s ≡ (bit + 7) / 8 → {v : ℕ} {c : Rattle.bits.specs.declared.Cursor.Cursor} {f : Bits}
+      → length s ≤ 32768 → bit ≤ 8 * length s → f ≡ readField s (8 * length s - bit) bit → f ≡ Got v c
+      → ends-at s bit ≡ eqb v 0
+  unfolding ends-at
+  ends-read h {v} {c} small inside g e =
+      let w : 8 * length s - bit ≤ 16 = omega arith in
+      let r : bit + (8 * length s - bit) ≤ roomOf s = omega arith in
+      let p = sym (read-yes s (8 * length s - bit) bit w r) ∙ sym g ∙ e in
+      let q : bitsAt s bit (8 * length s - bit) ≡ v = cc p in
+      rw (eq-eqb (length s) (bytesFor bit) h, q)
+
+  pub ends-past : length s ≡ (bit + 7) / 8 → {f : Bits} → length s ≤ 32768 → bit ≤ 8 * length s
+      → f ≡ readField s (8 * length s - bit) bit → f ≡ Past → ends-at s bit ≡ false
+  ends-past h small inside g e =
+      let w : 8 * length s - bit ≤ 16 = omega arith in
+      let r : bit + (8 * length s - bit) ≤ roomOf s = omega arith in
+      let p = sym (read-yes s (8 * length s - bit) bit w r) ∙ sym g ∙ e in
+      let z : _≡_ {A = ℕ} 0 1 = cc p in
+      absurd (omega arith)
+
+-- ---- a walk over a whole file
+
+shown-words : {A : Type 0} (val : A → ℕ) (o : Outcome A) (us vs : List ℕ) → shown val (sunk o us vs) .words ≡ us
+shown-words val (ok a c) us vs = refl
+shown-words val (no m c) us vs = refl
+
+shown-bytes : {A : Type 0} (val : A → ℕ) (o : Outcome A) (us vs : List ℕ) → shown val (sunk o us vs) .bytes ≡ vs
+shown-bytes val (ok a c) us vs = refl
+shown-bytes val (no m c) us vs = refl
+
+-- what a walk answers, by its outcome
+walk-of : {A : Type 0} → (A → ℕ) → Outcome A → Walk
+walk-of val (ok a c) = On (val a) c
+walk-of val (no m c) = No m c
+
+shown-walk : {A : Type 0} (val : A → ℕ) (o : Outcome A) (us vs : List ℕ) → shown val (sunk o us vs) .walk ≡ walk-of val o
+unfolding walk-of
+shown-walk val (ok a c) us vs = refl
+shown-walk val (no m c) us vs = refl
+
+module _ {A : Type 0} (s l : List ℕ) {p : Grammar A} {b : Bool} {ws bs ws₁ bs₁ : List ℕ} {val : A → ℕ} {r : Walk}
+    (h : Ran (from s l) p (start b) ws bs val r ws₁ bs₁) where
+  shown-is : record { walk = r; words = ws₁; bytes = bs₁ }
+      ≡ shown val (sunk (outcome (from s l) p (start b)) (sets ws 0 (trace (from s l) p (start b))) (puts bs 0 (trace (from s l) p (start b))))
+  shown-is = h .told ∙ ap (shown val) (run-sunk (from s l) p (start b) ws bs)
+
+  -- the outputs hold the fields that were passed
+  pub words-after : ws₁ ≡ sets ws 0 (trace (from s l) p (start b))
+  words-after = ap (λ (x : Shown). x .words) shown-is ∙ shown-words val (outcome (from s l) p (start b)) _ _
+
+  pub bytes-after : bs₁ ≡ puts bs 0 (trace (from s l) p (start b))
+  bytes-after = ap (λ (x : Shown). x .bytes) shown-is ∙ shown-bytes val (outcome (from s l) p (start b)) _ _
+
+  walk-is : r ≡ walk-of val (outcome (from s l) p (start b))
+  walk-is = ap (λ (x : Shown). x .walk) shown-is ∙ shown-walk val (outcome (from s l) p (start b)) _ _
+
+-- over bytes
+module _ {A : Type 0} (s : List ℕ) (p : Grammar A) {ws bs ws₁ bs₁ : List ℕ} (val : A → ℕ) {r : Walk}
+    (h : Ran (from s []) p (start false) ws bs val r ws₁ bs₁) where
+  pub inside-bytes : bits-of r ≤ 8 * length s
+  unfolding bits-of walk-of
+  inside-bytes = rw (walk-is s [] h) (go (outcome (from s []) p (start false)) refl)
+    where
+      go : (o : Outcome A) → outcome (from s []) p (start false) ≡ o → bits-of (walk-of val o) ≤ 8 * length s
+      go (ok a d) e = let k = end-room s [] p (start false) e refl (omega arith) in omega arith
+      go (no m d) e = omega arith
+
+  pub bytes-seen : (w : ℕ) → seen-bytes w s r ≡ seen val (open-bytes w p s)
+  unfolding seen-bytes seen open-bytes walk-of
+  bytes-seen w = ap (seen-bytes w s) (walk-is s [] h) ∙ go (outcome (from s []) p (start false)) refl
+    where
+      under : (b : Bool) (a : A) (d : Cursor) (fs : List (ℕ × ℕ)) → d .n ≡ length fs → d .bit ≡ width fs
+          → cond b (sees (val a) (d .n) (d .bit)) (shut (refusal-at 7 w (d .bit)))
+          ≡ seen val (cond b (good a fs) (bad (refusal-at 7 w (d .bit))))
+      under true a d fs e g = ap₂ (λ (n k : ℕ). sees (val a) n k) e g
+      under false a d fs e g = refl
+
+      go : (o : Outcome A) → outcome (from s []) p (start false) ≡ o
+          → seen-bytes w s (walk-of val o) ≡ seen val (closed-bytes w s o (trace (from s []) p (start false)))
+      go (ok a d) e =
+          under (ends-at s (d .bit)) a d (trace (from s []) p (start false)) (end-n (from s []) p false e)
+          (end-bit (from s []) p false e)
+      go (no m d) e = refl
+
+-- over a list
+module _ {A : Type 0} (l : List ℕ) (p : Grammar A) {ws bs ws₁ bs₁ : List ℕ} (val : A → ℕ) {r : Walk}
+    (h : Ran (from [] l) p (start true) ws bs val r ws₁ bs₁) where
+  pub list-seen : (w : ℕ) → seen-list w l r ≡ seen val (open-list w p l)
+  unfolding seen-list seen open-list walk-of
+  list-seen w = ap (seen-list w l) (walk-is [] l h) ∙ go (outcome (from [] l) p (start true)) refl
+    where
+      under : (b : Bool) (a : A) (d : Cursor) (fs : List (ℕ × ℕ)) → d .n ≡ length fs → d .bit ≡ width fs
+          → cond b (sees (val a) (d .n) (d .bit)) (shut (refusal-at 7 w (d .n)))
+          ≡ seen val (cond b (good a fs) (bad (refusal-at 7 w (d .n))))
+      under true a d fs e g = ap₂ (λ (n k : ℕ). sees (val a) n k) e g
+      under false a d fs e g = refl
+
+      go : (o : Outcome A) → outcome (from [] l) p (start true) ≡ o
+          → seen-list w l (walk-of val o) ≡ seen val (closed-list w l o (trace (from [] l) p (start true)))
+      go (ok a d) e =
+          under (eqb (d .n) (length l)) a d (trace (from [] l) p (start true)) (end-n (from [] l) p true e)
+          (end-bit (from [] l) p true e)
+      go (no m d) e = refl
+
+-- ---- what the code makes of a walk
+
+pub bits-on : {r : Walk} {v : ℕ} {c : Cursor} (n : ℕ) → r ≡ On v c → bits-of r ≤ n → c .bit ≤ n
+unfolding bits-of
+bits-on n e h = subst (λ x. bits-of x ≤ n) e h
+
+module _ (s : List ℕ) (place : Place) {r : Walk} {c : Cursor} where
+  pub bytes-good : {v : ℕ} {b : Bool} → r ≡ On v c → b ≡ ends-at s (c .bit) → b ≡ true
+      → sight (Open v (c .n) (c .bit)) ≡ seen-bytes (w-of place) s r
+  unfolding sight seen-bytes
+  bytes-good e g t = rw (e, ← g, t)
+
+  pub bytes-left : {v : ℕ} {b : Bool} → r ≡ On v c → b ≡ ends-at s (c .bit) → b ≡ false
+      → sight (Shut (record { number = 7; place = place; a = c .bit; b = 0 })) ≡ seen-bytes (w-of place) s r
+  unfolding sight seen-bytes paper-refusal
+  bytes-left e g t = rw (e, ← g, t)
+
+  pub bytes-no : {m : ℕ} → r ≡ No m c
+      → sight (Shut (record { number = m; place = place; a = c .bit; b = 0 })) ≡ seen-bytes (w-of place) s r
+  unfolding sight seen-bytes paper-refusal
+  bytes-no e = rw e
+
+module _ (l : List ℕ) (place : Place) {r : Walk} {c : Cursor} where
+  pub list-good : {v : ℕ} → r ≡ On v c → c .n ≡ length l → sight (Open v (c .n) (c .bit)) ≡ seen-list (w-of place) l r
+  unfolding sight seen-list
+  list-good e g = rw (e, eq-eqb (c .n) (length l) g)
+
+  pub list-left : {v : ℕ} → r ≡ On v c → c .n ≢ length l
+      → sight (Shut (record { number = 7; place = place; a = c .n; b = 0 })) ≡ seen-list (w-of place) l r
+  unfolding sight seen-list paper-refusal
+  list-left e g = rw (e, ne-eqb (c .n) (length l) g)
+
+  pub list-no : {m : ℕ} → r ≡ No m c
+      → sight (Shut (record { number = m; place = place; a = c .n; b = 0 })) ≡ seen-list (w-of place) l r
+  unfolding sight seen-list paper-refusal
+  list-no e = rw e

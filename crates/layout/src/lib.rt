@@ -1,0 +1,291 @@
+// The two packed files: reading and writing.
+use fields::Cursor;
+use fields::Walk;
+ghost use mathlib.Core.Path.{_≡_};
+ghost use Prim.Native.Nat.{_≤_, _*_};
+ghost use lib.ListN.{length};
+ghost use Rattle.patterns.specs.Refusal.{book-place, certificate-place};
+ghost use Rattle.layout.specs.Files.{refusal-at, ends-at};
+ghost use Rattle.layout.specs.Openings.{bits-of, sight, seen-bytes, seen-list, BookOpened, Beside};
+ghost use Rattle.layout.specs.Answers.{
+  reading-book,
+  writing-book,
+  reading-certificate,
+  writing-certificate,
+  listing-beside,
+  writing-beside,
+  told,
+  output,
+  w-of,
+  paper,
+  refused-with,
+};
+
+// What a refusal speaks of.
+pub enum Place {
+    Book,
+    Certificate,
+    Line,
+    Closing,
+    Neither,
+}
+
+// A refusal: its number, what it speaks of, and the place there.
+pub struct Refusal {
+    pub number: u16,
+    pub place: Place,
+    pub a: usize,
+    pub b: usize,
+}
+
+// What reading and writing answer: how many places were filled, or a refusal.
+pub enum Answer {
+    Filled(usize),
+    Refused(Refusal),
+}
+
+// A good file: a number of it, its fields and its bits. Or its refusal.
+pub enum Opening {
+    Open(usize, usize, usize),
+    Shut(Refusal),
+}
+
+// A refusal that speaks of a file as a whole.
+fn refused(number: u16, place: Place) -> Answer
+    ensures { λ r. ⌜ paper r ≡ refused-with (refusal-at number (w-of place) 0) ⌝ }
+{
+    Answer::Refused(Refusal {
+        number,
+        place,
+        a: 0,
+        b: 0,
+    })
+}
+
+// Whether only zero bits follow a bit, up to the next whole byte.
+fn ends(s: &[u8], bit: usize) -> bool
+    requires { ⌜ (length (now s) ≤ 32768) × (bit ≤ 8 * length (now s)) ⌝ }
+    ensures { λ r. ⌜ r ≡ ends-at (now (s .entry)) bit ⌝ }
+{
+    if s.len() != (bit + 7) / 8 {
+        return false;
+    }
+    let rest = bits::Cursor { at: bit };
+    match rest.take(8 * s.len() - bit, s) {
+        bits::Field::Past => false,
+        bits::Field::Got(v, _) => v == 0,
+    }
+}
+
+// What a walk over a file's bytes comes to, once the end of the file is looked at.
+fn opened(s: &[u8], place: Place, w: Walk) -> Opening
+    requires { ⌜ (length (now s) ≤ 32768) × (bits-of w ≤ 8 * length (now s)) ⌝ }
+    ensures { λ r. ⌜ sight r ≡ seen-bytes (w-of place) (now (s .entry)) w ⌝ }
+{
+    match w {
+        Walk::No(m, c) => Opening::Shut(Refusal {
+            number: m,
+            place,
+            a: c.bit,
+            b: 0,
+        }),
+        Walk::On(v, c) => {
+            let bit = c.bit;
+            if ends(s, bit) {
+                return Opening::Open(v, c.n, bit);
+            }
+            Opening::Shut(Refusal {
+                number: 7,
+                place,
+                a: bit,
+                b: 0,
+            })
+        }
+    }
+}
+
+// What a walk over a list of fields comes to, once the end of the list is looked at.
+fn opened_list(l: &[u16], place: Place, w: Walk) -> Opening
+    ensures { λ r. ⌜ sight r ≡ seen-list (w-of place) (now (l .entry)) w ⌝ }
+{
+    match w {
+        Walk::No(m, c) => Opening::Shut(Refusal {
+            number: m,
+            place,
+            a: c.n,
+            b: 0,
+        }),
+        Walk::On(v, c) => {
+            let n = c.n;
+            if n == l.len() {
+                return Opening::Open(v, n, c.bit);
+            }
+            Opening::Shut(Refusal {
+                number: 7,
+                place,
+                a: n,
+                b: 0,
+            })
+        }
+    }
+}
+
+// Reads a book to its end; how many calls each rule has is noted.
+fn open_book(s: &[u8], counts: &mut [u8]) -> Opening
+    requires { ⌜ (length (now s) ≤ 16384) × (256 ≤ length (now counts)) ⌝ }
+    ensures { λ r. ⌜ BookOpened (now (s .entry)) r (now (counts .exit)) ⌝ }
+{
+    let none = [0u16; 0];
+    let mut words = [0u16; 0];
+    let mut bytes = [0u8; 0];
+    let w = books::book(false, s, &none, &mut words, &mut bytes, counts);
+    opened(s, Place::Book, w)
+}
+
+// Reads a book's bytes into a list of its fields.
+pub fn read_book(book: &[u8], out: &mut [u16]) -> Answer
+    ensures answered { λ r. ⌜ paper r ≡ told book-place (reading-book (now (book .entry))) (length (now (out .entry))) ⌝ }
+    ensures filled { λ r. ⌜ now (out .exit) ≡ output (reading-book (now (book .entry))) (now (out .entry)) ⌝ }
+{
+    if book.len() > 16384 {
+        return refused(2, Place::Book);
+    }
+    let mut counts = [0u8; 256];
+    match open_book(book, &mut counts) {
+        Opening::Shut(r) => Answer::Refused(r),
+        Opening::Open(_, n, _) => {
+            if n > out.len() {
+                return refused(8, Place::Book);
+            }
+            let none = [0u16; 0];
+            let mut bytes = [0u8; 0];
+            let _again = books::book(false, book, &none, out, &mut bytes, &mut counts);
+            Answer::Filled(n)
+        }
+    }
+}
+
+// Writes a list of a book's fields into its bytes.
+pub fn write_book(fields: &[u16], out: &mut [u8]) -> Answer
+    ensures answered { λ r. ⌜ paper r ≡ told book-place (writing-book (now (fields .entry))) (length (now (out .entry))) ⌝ }
+    ensures filled { λ r. ⌜ now (out .exit) ≡ output (writing-book (now (fields .entry))) (now (out .entry)) ⌝ }
+{
+    let none = [0u8; 0];
+    let mut words = [0u16; 0];
+    let mut bytes = [0u8; 0];
+    let mut counts = [0u8; 0];
+    let w = books::book(true, &none, fields, &mut words, &mut bytes, &mut counts);
+    match opened_list(fields, Place::Book, w) {
+        Opening::Shut(r) => Answer::Refused(r),
+        Opening::Open(_, _, k) => {
+            let n = k / 8 + (k % 8 + 7) / 8;
+            if n > 16384 {
+                return refused(2, Place::Book);
+            }
+            if n > out.len() {
+                return refused(8, Place::Book);
+            }
+            let _again = books::book(true, &none, fields, &mut words, out, &mut counts);
+            Answer::Filled(n)
+        }
+    }
+}
+
+// Reads the bytes of a certificate, beside its good book, into a list of its fields.
+fn list_certificate(book: &[u8], counts: &[u8], s: &[u8], out: &mut [u16]) -> Answer
+    requires { ⌜ Beside (now book) (now counts) × (length (now s) ≤ 32768) ⌝ }
+    ensures answered { λ r. ⌜ paper r ≡ told certificate-place (listing-beside (now (book .entry)) (now (s .entry))) (length (now (out .entry))) ⌝ }
+    ensures filled { λ r. ⌜ now (out .exit) ≡ output (listing-beside (now (book .entry)) (now (s .entry))) (now (out .entry)) ⌝ }
+{
+    let none = [0u16; 0];
+    let mut words = [0u16; 0];
+    let mut bytes = [0u8; 0];
+    let first = Cursor {
+        bit: 0,
+        n: 0,
+        listed: false,
+    };
+    let w = certificates::certificate(book, counts, s, &none, &mut words, &mut bytes, first);
+    match opened(s, Place::Certificate, w) {
+        Opening::Shut(r) => Answer::Refused(r),
+        Opening::Open(_, n, _) => {
+            if n > out.len() {
+                return refused(8, Place::Certificate);
+            }
+            let _again = certificates::certificate(book, counts, s, &none, out, &mut bytes, first);
+            Answer::Filled(n)
+        }
+    }
+}
+
+// Reads a certificate's bytes, with its book's, into a list of its fields.
+pub fn read_certificate(book: &[u8], certificate: &[u8], out: &mut [u16]) -> Answer
+    ensures answered { λ r. ⌜ paper r ≡ told certificate-place (reading-certificate (now (book .entry)) (now (certificate .entry))) (length (now (out .entry))) ⌝ }
+    ensures filled { λ r. ⌜ now (out .exit) ≡ output (reading-certificate (now (book .entry)) (now (certificate .entry))) (now (out .entry)) ⌝ }
+{
+    if book.len() > 16384 {
+        return refused(2, Place::Book);
+    }
+    if certificate.len() > 32768 {
+        return refused(2, Place::Certificate);
+    }
+    let mut counts = [0u8; 256];
+    match open_book(book, &mut counts) {
+        Opening::Shut(r) => Answer::Refused(r),
+        Opening::Open(m, _, _) => list_certificate(book, &counts[..m], certificate, out),
+    }
+}
+
+// Writes a list of a certificate's fields, beside its good book, into its bytes.
+fn pack_certificate(book: &[u8], counts: &[u8], fields: &[u16], out: &mut [u8]) -> Answer
+    requires { ⌜ Beside (now book) (now counts) ⌝ }
+    ensures answered { λ r. ⌜ paper r ≡ told certificate-place (writing-beside (now (book .entry)) (now (fields .entry))) (length (now (out .entry))) ⌝ }
+    ensures filled { λ r. ⌜ now (out .exit) ≡ output (writing-beside (now (book .entry)) (now (fields .entry))) (now (out .entry)) ⌝ }
+{
+    let none = [0u8; 0];
+    let mut words = [0u16; 0];
+    let mut bytes = [0u8; 0];
+    let first = Cursor {
+        bit: 0,
+        n: 0,
+        listed: true,
+    };
+    let w = certificates::certificate(book, counts, &none, fields, &mut words, &mut bytes, first);
+    match opened_list(fields, Place::Certificate, w) {
+        Opening::Shut(r) => Answer::Refused(r),
+        Opening::Open(_, _, k) => {
+            let n = k / 8 + (k % 8 + 7) / 8;
+            if n > 32768 {
+                return refused(2, Place::Certificate);
+            }
+            if n > out.len() {
+                return refused(8, Place::Certificate);
+            }
+            let _again = certificates::certificate(
+                book,
+                counts,
+                &none,
+                fields,
+                &mut words,
+                out,
+                first,
+            );
+            Answer::Filled(n)
+        }
+    }
+}
+
+// Writes a list of a certificate's fields, with its book's bytes, into its bytes.
+pub fn write_certificate(book: &[u8], fields: &[u16], out: &mut [u8]) -> Answer
+    ensures answered { λ r. ⌜ paper r ≡ told certificate-place (writing-certificate (now (book .entry)) (now (fields .entry))) (length (now (out .entry))) ⌝ }
+    ensures filled { λ r. ⌜ now (out .exit) ≡ output (writing-certificate (now (book .entry)) (now (fields .entry))) (now (out .entry)) ⌝ }
+{
+    if book.len() > 16384 {
+        return refused(2, Place::Book);
+    }
+    let mut counts = [0u8; 256];
+    match open_book(book, &mut counts) {
+        Opening::Shut(r) => Answer::Refused(r),
+        Opening::Open(m, _, _) => pack_certificate(book, &counts[..m], fields, out),
+    }
+}

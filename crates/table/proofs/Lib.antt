@@ -1,0 +1,10 @@
+-- The laws of the table, each above the one before.
+pub mod Nodes
+pub mod Writes
+pub mod Loads
+pub mod Pushing
+pub mod Sides
+pub mod Reindexing
+pub mod Comparing
+pub mod Marks
+pub mod Zeros

@@ -1,0 +1,150 @@
+-- What the code stores is what the push of the theory gives.
+use Prim.Native.Nat.{ℕ, zero, suc, _+_, _*_, _-_, _≤_, _<_}
+use mathlib.Core.Path.{_≡_, refl, sym, ap, subst, _∙_}
+use mathlib.Core.Logic.{if-pos, if-neg}
+use mathlib.Core.List.{List, [], _∷_}
+use native.Mathlib.Decide.{ℕ-discrete}
+use native.Mathlib.Numerals.{add-one}
+use native.Mathlib.Omega.{arith}
+use lib.ListN.{getD}
+use Rattle.patterns.specs.Term.{Node, npow}
+use Rattle.patterns.specs.First.{Exp, exponents}
+use Rattle.patterns.specs.Counters.{pair-path, more, alone}
+use Rattle.patterns.specs.Push.{put, push, pushes}
+use Rattle.table.specs.Nodes.{nodeOf, nodeAt, withNode, stack, topCode, load}
+use Rattle.table.specs.Sides.{told, Room, Holds, Became, Took}
+use Rattle.table.specs.declared.Item.{Item}
+use Rattle.table.specs.declared.Item.the-variants.{Variable, Symbol, Power}
+use Rattle.table.specs.declared.Pushed.{Pushed}
+use Rattle.table.specs.declared.Pushed.the-variants.{Count, NoRoom}
+use Rattle.table.proofs.Nodes.{Tells, is-var, is-fun, is-pow, tells, var-told, fun-told, pow-told, stack-length}
+use Rattle.table.proofs.Writes.{kept-self, with-stack, with-kept}
+
+pub became-as : {base : ℕ} {ns ms : List (Node Exp)} {w v : List ℕ} {r : Pushed} → ns ≡ ms → Became base ns w v r → Became base ms w v r
+became-as {base} {ns} {ms} {w} {v} {r} e b = subst (λ l. Became base l w v r) e b
+
+-- ---- a node stored
+
+module _ (w : List ℕ) (base n code a b : ℕ) (room : Room base n w) where
+  pub store-full : n ≡ 1024 → Became base (nodeOf code a b ∷ stack w base n) w w NoRoom
+  unfolding Holds
+  store-full h = record { holds = omega (arith, stack-length w base n); kept = kept-self base 3072 w }
+
+  pub store-one : (v : List ℕ) → (n ≡ 1024 → ⊥) → v ≡ withNode w (base + 3 * n) code a b
+      → Became base (nodeOf code a b ∷ stack w base n) w v (Count (n + 1))
+  unfolding Holds
+  store-one v h e =
+      let less : n < 1024 = omega (arith, room .few) in
+      rw (add-one n, e)
+      (record {
+        holds = (omega arith, with-stack w base n code a b (omega (arith, room .within)));
+        kept = with-kept w base n code a b less;
+      })
+
+-- ---- the node on top
+
+pub top-none : (w : List ℕ) (base n : ℕ) → n ≡ 0 → 0 ≡ topCode w base n
+unfolding topCode
+top-none w base zero h = refl
+top-none w base (suc n) h = absurd (omega arith)
+
+pub top-one : (w : List ℕ) (base n : ℕ) → (n ≡ 0 → ⊥) → getD w (base + 3 * (n - 1)) 0 ≡ topCode w base n
+unfolding topCode
+top-one w base zero h = absurd (h refl)
+top-one w base (suc n) h = let down : suc n - 1 ≡ n = omega arith in rw down
+
+pub top-some : (w : List ℕ) (base n s : ℕ) → topCode w base n ≡ 3 * s + 2 → 1 ≤ n
+unfolding topCode
+top-some w base zero s k = absurd (omega arith)
+top-some w base (suc n) s k = omega arith
+
+-- ---- a power
+
+push-none : (ns : List (Node Exp)) (s a b : ℕ) → a + b ≡ 0 → push exponents ns (npow s (a, b)) ≡ ns
+unfolding push exponents more alone
+push-none ns s a b h = if-pos (exponents .none? (a, b)) (pair-path (omega arith) (omega arith)) _ _
+
+push-some : (ns : List (Node Exp)) (s a b : ℕ) → (a + b ≡ 0 → ⊥) → push exponents ns (npow s (a, b)) ≡ put exponents s (a, b) ns
+unfolding push exponents more alone
+push-some ns s a b h =
+    if-neg (exponents .none? (a, b))
+    (λ z.
+    let p : a ≡ 0 = ap (λ (e : Exp). e .0) z in
+    let q : b ≡ 0 = ap (λ (e : Exp). e .1) z in
+    h (omega arith)) _ _
+
+put-other : {c x y : ℕ} {m : Node Exp} (s : ℕ) (e : Exp) (ns : List (Node Exp)) → Tells c x y m → (c ≡ 3 * s + 2 → ⊥)
+    → put exponents s e (m ∷ ns) ≡ npow s e ∷ m ∷ ns
+unfolding put
+put-other s e ns (is-var x p) h = refl
+put-other s e ns (is-fun f p) h = refl
+put-other s e ns (is-pow r p) h = if-neg (ℕ-discrete r s) (λ z. h (omega arith)) _ _
+
+put-like : {c x y : ℕ} {m : Node Exp} (s a b : ℕ) (ns : List (Node Exp)) → Tells c x y m → c ≡ 3 * s + 2
+    → put exponents s (a, b) (m ∷ ns) ≡ npow s (x + a, y + b) ∷ ns
+unfolding put exponents more alone
+put-like s a b ns (is-var x p) h = absurd (omega arith)
+put-like s a b ns (is-fun f p) h = absurd (omega arith)
+put-like s a b ns (is-pow r p) h = let z : r ≡ s = omega arith in if-pos (ℕ-discrete r s) z _ _ ∙ rw z
+
+push-other : (w : List ℕ) (base n s a b : ℕ) → (a + b ≡ 0 → ⊥) → (topCode w base n ≡ 3 * s + 2 → ⊥)
+    → nodeOf (3 * s + 2) a b ∷ stack w base n ≡ push exponents (stack w base n) (npow s (a, b))
+unfolding topCode stack nodeAt put
+push-other w base zero s a b h k = ap (λ m. m ∷ []) (pow-told s a b) ∙ sym (push-some [] s a b h)
+push-other w base (suc n) s a b h k =
+    ap (λ m. m ∷ stack w base (suc n)) (pow-told s a b)
+    ∙ sym (push-some _ s a b h ∙ put-other s (a, b) (stack w base n) (tells _ _ _) k)
+
+-- dropped
+pub push-dropped : (w : List ℕ) (base n s a b : ℕ) → n ≤ 1024 → a + b ≡ 0 → Took base n (npow s (a, b) ∷ []) w w (Count n)
+unfolding Holds pushes
+push-dropped w base n s a b few h =
+    record { holds = (few, sym (push-none (stack w base n) s a b h)); kept = kept-self base 3072 w }
+
+-- stored
+pub push-stored : (w v : List ℕ) (base n s a b : ℕ) (r : Pushed) → (a + b ≡ 0 → ⊥) → (topCode w base n ≡ 3 * s + 2 → ⊥)
+    → Became base (nodeOf (3 * s + 2) a b ∷ stack w base n) w v r → Took base n (npow s (a, b) ∷ []) w v r
+unfolding pushes
+push-stored w v base n s a b r h k g = became-as (push-other w base n s a b h k) g
+
+-- added to its like
+like-pushed : (w : List ℕ) (base n s a b : ℕ) → getD w (base + 3 * n) 0 ≡ 3 * s + 2 → (a + b ≡ 0 → ⊥)
+    → nodeOf (3 * s + 2) (getD w (base + 3 * n + 1) 0 + a) (getD w (base + 3 * n + 2) 0 + b) ∷ stack w base n
+    ≡ push exponents (stack w base (suc n)) (npow s (a, b))
+unfolding stack nodeAt
+like-pushed w base n s a b k h =
+    ap (λ m. m ∷ stack w base n) (pow-told s _ _)
+    ∙ sym (push-some (stack w base (suc n)) s a b h ∙ put-like s a b (stack w base n) (tells _ _ _) k)
+
+pub push-added : (w v : List ℕ) (base n s a b : ℕ) → Room base n w → (a + b ≡ 0 → ⊥) → topCode w base n ≡ 3 * s + 2
+    → v ≡ withNode w (base + 3 * (n - 1)) (3 * s + 2) (getD w (base + 3 * (n - 1) + 1) 0 + a) (getD w (base + 3 * (n - 1) + 2) 0 + b)
+    → Took base n (npow s (a, b) ∷ []) w v (Count n)
+unfolding topCode Holds pushes
+push-added w v base zero s a b room h k e = absurd (omega arith)
+push-added w v base (suc n) s a b room h k e =
+    let down : suc n - 1 ≡ n = omega arith in
+    let at : v ≡ withNode w (base + 3 * n) (3 * s + 2) (getD w (base + 3 * n + 1) 0 + a) (getD w (base + 3 * n + 2) 0 + b) = rw down at e in
+    rw at
+    (record {
+      holds = (room .few, with-stack w base n _ _ _ (omega (arith, room .within, room .few)) ∙ like-pushed w base n s a b k h);
+      kept = with-kept w base n _ _ _ (omega (arith, room .few));
+    })
+
+-- ---- any node
+
+module _ (w v : List ℕ) (base n : ℕ) (r : Pushed) (m : Item) where
+  pub push-variable : (x : ℕ) → m ≡ Variable x → Became base (nodeOf (3 * x) 0 0 ∷ stack w base n) w v r → Took base n (told m ∷ []) w v r
+  unfolding told push pushes
+  push-variable x e g = rw e (became-as (ap (λ t. t ∷ stack w base n) (var-told x 0 0)) g)
+
+  pub push-symbol : (f : ℕ) → m ≡ Symbol f → Became base (nodeOf (3 * f + 1) 0 0 ∷ stack w base n) w v r → Took base n (told m ∷ []) w v r
+  unfolding told push pushes
+  push-symbol f e g = rw e (became-as (ap (λ t. t ∷ stack w base n) (fun-told f 0 0)) g)
+
+  pub push-raised : (s a b : ℕ) → m ≡ Power s a b → Took base n (npow s (a, b) ∷ []) w v r → Took base n (told m ∷ []) w v r
+  unfolding told
+  push-raised s a b e g = rw e g
+
+pub power-fits : (m : Item) (s a b : ℕ) (ns : List (Node Exp)) (bound : ℕ) → m ≡ Power s a b → load (told m ∷ ns) < bound → a + b + load ns < bound
+unfolding told load
+power-fits m s a b ns bound e h = rw e at h

@@ -1,0 +1,85 @@
+-- Pushes compose, what lies elsewhere in the table stays, and no second answer fits.
+use Prim.Native.Nat.{ℕ, _+_, _≤_, _<_}
+use mathlib.Core.Path.{_≡_, refl, sym, ap, _∙_}
+use mathlib.Core.List.{List, [], _++_}
+use native.Mathlib.Omega.{arith}
+use lib.ListN.{length, getD}
+use Rattle.patterns.specs.Term.{Node}
+use Rattle.patterns.specs.First.{Exp, exponents}
+use Rattle.patterns.specs.Push.{pushes}
+use Rattle.patterns.proofs.Push.{pushes-append, pushes-grow}
+use Rattle.table.specs.Nodes.{stack, load}
+use Rattle.table.specs.Sides.{Room, Kept, Holds, Took}
+use Rattle.table.specs.declared.Pushed.{Pushed}
+use Rattle.table.specs.declared.Pushed.the-variants.{Count, NoRoom}
+use Rattle.table.proofs.Nodes.{stack-length, stack-kept}
+use Rattle.table.proofs.Writes.{kept-self, kept-then}
+use Rattle.table.proofs.Loads.{load-pushes}
+use Rattle.table.proofs.Pushing.{became-as}
+
+pub took-none : (base n : ℕ) (w : List ℕ) → n ≤ 1024 → Took base n [] w w (Count n)
+unfolding Holds pushes
+took-none base n w few = record { holds = (few, refl); kept = kept-self base 3072 w }
+
+-- what one run of pushes left, another took up
+pub took-then : (base n k : ℕ) (ms ks : List (Node Exp)) (w v u : List ℕ) (r : Pushed)
+    → Took base n ms w v (Count k) → Took base k ks v u r → Took base n (ms ++ ks) w u r
+unfolding Holds
+took-then base n k ms ks w v u r p q =
+    let e : pushes exponents (stack v base k) ks ≡ pushes exponents (stack w base n) (ms ++ ks) =
+    ap (λ l. pushes exponents l ks) (p .holds .1) ∙ sym (pushes-append exponents (stack w base n) ms ks) in
+    became-as e (record { holds = q .holds; kept = kept-then (p .kept) (q .kept) })
+
+-- where there was no room for some nodes there is none for more
+pub took-stop : (base n : ℕ) (ms ks : List (Node Exp)) (w v : List ℕ) → Took base n ms w v NoRoom → Took base n (ms ++ ks) w v NoRoom
+unfolding Holds
+took-stop base n ms ks w v p = record {
+  holds = rw (pushes-append exponents (stack w base n) ms ks)
+      (omega (arith, p .holds, pushes-grow exponents (pushes exponents (stack w base n) ms) ks));
+  kept = p .kept;
+}
+
+-- and the side is ready for the next
+pub took-room : (base n k : ℕ) (ms : List (Node Exp)) (w v : List ℕ) → Room base n w → Took base n ms w v (Count k) → Room base k v
+unfolding Holds
+took-room base n k ms w v room p = record { within = omega (arith, room .within, p .kept .size); few = p .holds .0 }
+
+-- the numbers that are stored add up to those that were pushed
+pub took-load : (base n k : ℕ) (ms : List (Node Exp)) (w v : List ℕ) → Took base n ms w v (Count k)
+    → load (stack v base k) ≡ load (stack w base n) + load ms
+unfolding Holds
+took-load base n k ms w v p = ap load (p .holds .1) ∙ load-pushes (stack w base n) ms
+
+-- ---- what lies elsewhere stays
+
+-- two parts of the table share no word
+pub data Apart (base room other more : ℕ) : Type 0 where
+  before : base + room ≤ other → Apart base room other more
+  behind : other + more ≤ base → Apart base room other more
+
+pub kept-wider : {base room other more : ℕ} {w v : List ℕ} → other ≤ base → base + room ≤ other + more → Kept base room w v → Kept other more w v
+kept-wider p q c = record {
+  size = c .size;
+  low = λ k h. c .low k (omega arith);
+  high = λ k h. c .high k (omega arith);
+}
+
+pub kept-apart : {base room other more : ℕ} {w v : List ℕ} → Apart base room other more → Kept other more w v → (k : ℕ) → base ≤ k → k < base + room
+    → getD v k 0 ≡ getD w k 0
+kept-apart (before a) c k p q = c .low k (omega arith)
+kept-apart (behind a) c k p q = c .high k (omega arith)
+
+pub stack-apart : {base other more : ℕ} {w v : List ℕ} (n : ℕ) → n ≤ 1024 → Apart base 3072 other more → Kept other more w v → stack v base n ≡ stack w base n
+stack-apart {base} {other} {more} {w} {v} n few a c = stack-kept w v base n (λ k p q. kept-apart a c k p (omega arith))
+
+-- ---- one answer
+
+pub one-answer : (base : ℕ) (wanted : List (Node Exp)) (v u : List ℕ) (r s : Pushed) → Holds base wanted v r → Holds base wanted u s → r ≡ s
+unfolding Holds
+one-answer base wanted v u (Count k) (Count j) p q =
+    ap Count (omega (arith, stack-length v base k, stack-length u base j, ap length (p .1), ap length (q .1)))
+one-answer base wanted v u (Count k) NoRoom p q =
+    absurd (omega (arith, stack-length v base k, ap length (p .1)))
+one-answer base wanted v u NoRoom (Count j) p q =
+    absurd (omega (arith, stack-length u base j, ap length (q .1)))
+one-answer base wanted v u NoRoom NoRoom p q = refl

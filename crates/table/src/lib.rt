@@ -1,0 +1,150 @@
+// The judge's work table: a normal form built node by node in a side of 3,072 words, two sides compared, the table cleared.
+ghost use mathlib.Core.Path.{_≡_};
+ghost use mathlib.Core.List.{[], _∷_};
+ghost use Prim.Native.Nat.{_+_, _*_, _<_, _≤_, _^_};
+ghost use lib.ListN.{length, replicate};
+ghost use Rattle.patterns.specs.Term.{npow};
+ghost use Rattle.table.specs.Nodes.{nodeOf, nodeAt, withNode, stack, side, load, topCode};
+ghost use Rattle.table.specs.Sides.{told, Reindexed, Room, Became, Took};
+ghost use Rattle.table.specs.Answer.{Says};
+
+// A node to be pushed: a variable, a symbol with arguments, or a power of a symbol with its numbers a and b.
+pub enum Item {
+    Variable(u16),
+    Symbol(u16),
+    Power(u16, u64, u64),
+}
+
+// How many nodes the side holds after a push, or that it would have to hold more than 1,024.
+pub enum Pushed {
+    Count(usize),
+    NoRoom,
+}
+
+// A product of two small numbers.
+fn times(a: u16, i: u16) -> u64
+    ensures { λ r. ⌜ (r ≡ a * i) × (r < 2 ^ 32) ⌝ }
+{
+    (a as u64) * (i as u64)
+}
+
+// A power of s with the numbers a and b, reindexed by (i, j).
+pub fn reindexed(s: u16, a: u16, b: u16, i: u16, j: u16) -> Item
+    ensures { λ r. ⌜ Reindexed s a b i j r ⌝ }
+{
+    Item::Power(s, times(a, i), times(a, j) + (b as u64))
+}
+
+// The three words of a node.
+fn write_node(w: &mut [u64], p: usize, code: u64, a: u64, b: u64)
+    requires { ⌜ p + 3 ≤ length (now w) ⌝ }
+    ensures { λ _. ⌜ now (w .exit) ≡ withNode (now (w .entry)) p code a b ⌝ }
+{
+    w[p] = code;
+    w[p + 1] = a;
+    w[p + 2] = b;
+}
+
+// One node more, stored behind n others.
+fn store(w: &mut [u64], base: usize, n: usize, code: u64, a: u64, b: u64) -> Pushed
+    requires { ⌜ Room base n (now w) ⌝ }
+    ensures { λ r. ⌜ Became base (nodeOf code a b ∷ stack (now (w .entry)) base n) (now (w .entry)) (now (w .exit)) r ⌝ }
+{
+    if n == 1024 {
+        return Pushed::NoRoom;
+    }
+    write_node(w, base + 3 * n, code, a, b);
+    Pushed::Count(n + 1)
+}
+
+// The first word of the last node, 0 where there is none.
+fn top_code(w: &[u64], base: usize, n: usize) -> u64
+    requires { ⌜ Room base n (now w) ⌝ }
+    ensures { λ r. ⌜ r ≡ topCode (now (w .entry)) base n ⌝ }
+{
+    if n == 0 {
+        return 0;
+    }
+    w[base + 3 * (n - 1)]
+}
+
+// A power: dropped if it counts nothing, added to the last node if that is a power of the same symbol.
+fn push_power(w: &mut [u64], base: usize, n: usize, s: u16, a: u64, b: u64) -> Pushed
+    requires { ⌜ Room base n (now w) ⌝ }
+    requires { ⌜ a + b + load (stack (now w) base n) < 2 ^ 64 ⌝ }
+    ensures { λ r. ⌜ Took base n (npow s (a, b) ∷ []) (now (w .entry)) (now (w .exit)) r ⌝ }
+{
+    if a + b == 0 {
+        return Pushed::Count(n);
+    }
+    let code = 3 * (s as u64) + 2;
+    if top_code(w, base, n) == code {
+        let at = base + 3 * (n - 1);
+        let more_a = w[at + 1] + a;
+        let more_b = w[at + 2] + b;
+        write_node(w, at, code, more_a, more_b);
+        return Pushed::Count(n);
+    }
+    store(w, base, n, code, a, b)
+}
+
+// A node pushed on a side that holds n.
+pub fn push(w: &mut [u64], base: usize, n: usize, node: Item) -> Pushed
+    requires { ⌜ Room base n (now w) ⌝ }
+    requires { ⌜ load (told node ∷ stack (now w) base n) < 2 ^ 64 ⌝ }
+    ensures { λ r. ⌜ Took base n (told node ∷ []) (now (w .entry)) (now (w .exit)) r ⌝ }
+{
+    match node {
+        Item::Variable(x) => store(w, base, n, 3 * (x as u64), 0, 0),
+        Item::Symbol(f) => store(w, base, n, 3 * (f as u64) + 1, 0, 0),
+        Item::Power(s, a, b) => push_power(w, base, n, s, a, b),
+    }
+}
+
+// Whether the nodes that begin at two places are equal.
+fn alike(w: &[u64], p: usize, q: usize) -> bool
+    requires { ⌜ (p + 3 ≤ length (now w)) × (q + 3 ≤ length (now w)) ⌝ }
+    ensures { λ r. ⌜ Says (nodeAt (now (w .entry)) p ≡ nodeAt (now (w .entry)) q) r ⌝ }
+{
+    if w[p] != w[q] {
+        return false;
+    }
+    if w[p] % 3 != 2 {
+        return true;
+    }
+    if w[p + 1] != w[q + 1] {
+        return false;
+    }
+    w[p + 2] == w[q + 2]
+}
+
+// Whether the n nodes of the side at `a` are the m nodes of the side at `b`.
+pub fn same(w: &[u64], a: usize, n: usize, b: usize, m: usize) -> bool
+    requires { ⌜ Room a n (now w) × Room b m (now w) ⌝ }
+    ensures { λ r. ⌜ Says (side (now (w .entry)) a n ≡ side (now (w .entry)) b m) r ⌝ }
+{
+    if n != m {
+        return false;
+    }
+    let mut k = 0;
+    let mut left = n;
+    while left > 0 {
+        if !alike(w, a + 3 * k, b + 3 * k) {
+            return false;
+        }
+        k += 1;
+        left -= 1;
+    }
+    true
+}
+
+// Every word 0.
+pub fn clear(w: &mut [u64])
+    ensures { λ _. ⌜ now (w .exit) ≡ replicate (length (now (w .entry))) 0 ⌝ }
+{
+    let mut k = w.len();
+    while k > 0 {
+        k -= 1;
+        w[k] = 0;
+    }
+}

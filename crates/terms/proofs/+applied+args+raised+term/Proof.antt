@@ -1,0 +1,723 @@
+use mathlib.Core.Path.{refl}
+use native.Mathlib.Omega.{arith}
+use Rattle.fields.proofs.Seqs.{seq-no, seq-on, seq-at, seq-last}
+use Rattle.grammar.specs.Terms.{an-applied, a-raised}
+use Rattle.terms.proofs.Symbols.{symbol-few}
+use Rattle.terms.proofs.Nodes.{term-none, term-some, node-variable, node-applied, node-raised, args-none, args-some, term-left}
+use borrow.Author.Needs.{needs}
+use Prim.Native.Nat.{ℕ, _+_, _*_, _<_}
+use borrow.Fn.Kinds.{In}
+use borrow.Fn.PlainCycle.{Measures, is, falls, and}
+use Rattle.terms.proofs.applied.Reads as applied
+use Rattle.terms.proofs.applied.Kinds as applied-kinds
+use Rattle.terms.proofs.+applied+args+raised+term.Lts-applied as applied-lts
+use Rattle.terms.proofs.args.Reads as args
+use Rattle.terms.proofs.args.Kinds as args-kinds
+use Rattle.terms.proofs.+applied+args+raised+term.Lts-args as args-lts
+use Rattle.terms.proofs.raised.Reads as raised
+use Rattle.terms.proofs.raised.Kinds as raised-kinds
+use Rattle.terms.proofs.+applied+args+raised+term.Lts-raised as raised-lts
+use Rattle.terms.proofs.term.Reads as term
+use Rattle.terms.proofs.term.Kinds as term-kinds
+use Rattle.terms.proofs.+applied+args+raised+term.Lts-term as term-lts
+use Rattle.fields.proofs.Cursor.take.Reads as take-reads
+use Rattle.terms.proofs.raise.Reads as raise-reads
+use Rattle.terms.proofs.symbol.Reads as symbol-reads
+use Rattle.terms.proofs.variable.Reads as variable-reads
+use Rattle.terms.proofs.+applied+args+raised+term.{statement}
+use Rattle.terms.proofs.+applied+args+raised+term.Tie.{close}
+
+abbrev μ-applied : Measures 5 applied-kinds.ps ℕ
+μ-applied κs a = 16 * a .1 .1 .1 .1 .1 .1 .1 .0 + 12
+
+abbrev μ-args : Measures 5 args-kinds.ps ℕ
+μ-args κs a = 16 * a .1 .1 .1 .1 .1 .1 .1 .1 .0 + a .1 .1 .1 .1 .1 .1 .1 .0 + 1
+
+abbrev μ-raised : Measures 5 raised-kinds.ps ℕ
+μ-raised κs a = 16 * a .1 .1 .1 .1 .1 .1 .1 .1 .0 + 12
+
+abbrev μ-term : Measures 5 term-kinds.ps ℕ
+μ-term κs a = 16 * a .1 .1 .1 .1 .1 .1 .1 .1 .1 .0
+
+abbrev applied-at : ℕ → In 5 applied-kinds.ps
+applied-at t = and 5 applied-kinds.ps (is 5 applied-kinds.ps μ-applied t) applied.Pre
+
+abbrev applied-below : ℕ → In 5 applied-kinds.ps
+applied-below t = and 5 applied-kinds.ps (falls 5 applied-kinds.ps _<_ μ-applied t) applied.Pre
+
+abbrev args-at : ℕ → In 5 args-kinds.ps
+args-at t = and 5 args-kinds.ps (is 5 args-kinds.ps μ-args t) args.Pre
+
+abbrev args-below : ℕ → In 5 args-kinds.ps
+args-below t = and 5 args-kinds.ps (falls 5 args-kinds.ps _<_ μ-args t) args.Pre
+
+abbrev raised-at : ℕ → In 5 raised-kinds.ps
+raised-at t = and 5 raised-kinds.ps (is 5 raised-kinds.ps μ-raised t) raised.Pre
+
+abbrev raised-below : ℕ → In 5 raised-kinds.ps
+raised-below t = and 5 raised-kinds.ps (falls 5 raised-kinds.ps _<_ μ-raised t) raised.Pre
+
+abbrev term-at : ℕ → In 5 term-kinds.ps
+term-at t = and 5 term-kinds.ps (is 5 term-kinds.ps μ-term t) term.Pre
+
+abbrev term-below : ℕ → In 5 term-kinds.ps
+term-below t = and 5 term-kinds.ps (falls 5 term-kinds.ps _<_ μ-term t) term.Pre
+
+-- src/lib.rt:236:11
+applied-symbol-requires : (t : ℕ) → applied-lts.Need-symbol-requires (
+  symbol-reads.Asked,
+  symbol-reads.Learnt,
+  args-below t,
+  args.Post,
+) (applied-at t) applied.Post
+applied-symbol-requires t c κs = search needs
+
+-- src/lib.rt:237:18
+applied-enum-known-m : (t : ℕ) → applied-lts.Need-enum-known-m (
+  symbol-reads.Asked,
+  symbol-reads.Learnt,
+  args-below t,
+  args.Post,
+) (applied-at t) applied.Post
+applied-enum-known-m t c = search needs
+
+-- src/lib.rt:238:18
+applied-enum-known-n : (t : ℕ) → applied-lts.Need-enum-known-n (
+  symbol-reads.Asked,
+  symbol-reads.Learnt,
+  args-below t,
+  args.Post,
+) (applied-at t) applied.Post
+applied-enum-known-n t c = search needs
+
+-- src/lib.rt:238:27
+applied-args-requires : (t : ℕ) → applied-lts.Need-args-requires (
+  symbol-reads.Asked,
+  symbol-reads.Learnt,
+  args-below t,
+  args.Post,
+) (applied-at t) applied.Post
+applied-args-requires t c κs = let h = symbol-few _ (c .before .before .before .before .before .before .before .before .before .symbol .ensures) (c .before .before .before .n .given .1) in search needs
+
+-- src/lib.rt:224:1
+applied-same-length : (t : ℕ) → applied-lts.Need-same-length (
+  symbol-reads.Asked,
+  symbol-reads.Learnt,
+  args-below t,
+  args.Post,
+) (applied-at t) applied.Post
+applied-same-length t c = search needs
+
+-- src/lib.rt:224:1
+applied-same-length-2 : (t : ℕ) → applied-lts.Need-same-length-2 (
+  symbol-reads.Asked,
+  symbol-reads.Learnt,
+  args-below t,
+  args.Post,
+) (applied-at t) applied.Post
+applied-same-length-2 t c = search needs
+
+-- src/lib.rt:224:1
+applied-returns : (t : ℕ) → applied-lts.Need-returns (
+  symbol-reads.Asked,
+  symbol-reads.Learnt,
+  args-below t,
+  args.Post,
+) (applied-at t) applied.Post
+unfolding an-applied
+applied-returns t c = λ deep h. seq-no (c .before .before .before .before .before .before .before .symbol .ensures) _ (c .before .m .given .1)
+
+-- src/lib.rt:224:1
+applied-same-length-3 : (t : ℕ) → applied-lts.Need-same-length-3 (
+  symbol-reads.Asked,
+  symbol-reads.Learnt,
+  args-below t,
+  args.Post,
+) (applied-at t) applied.Post
+applied-same-length-3 t c = search needs
+
+-- src/lib.rt:224:1
+applied-same-length-4 : (t : ℕ) → applied-lts.Need-same-length-4 (
+  symbol-reads.Asked,
+  symbol-reads.Learnt,
+  args-below t,
+  args.Post,
+) (applied-at t) applied.Post
+applied-same-length-4 t c = search needs
+
+-- src/lib.rt:224:1
+applied-returns-2 : (t : ℕ) → applied-lts.Need-returns-2 (
+  symbol-reads.Asked,
+  symbol-reads.Learnt,
+  args-below t,
+  args.Post,
+) (applied-at t) applied.Post
+unfolding an-applied
+applied-returns-2 t c = λ deep h. seq-on (c .before .before .before .before .before .before .before .before .before .before .before .before .before .before .symbol .ensures) _ (c .before .before .before .before .before .before .before .before .n .given .1) (λ f q. seq-last _ (λ g. refl) (rw q (c .before .before .before .before .args2 .ensures deep h)))
+
+-- src/lib.rt:277:9
+args-returns :
+    (t : ℕ) →
+    args-lts.Need-returns (term-below t, term.Post, args-below t, args.Post) (args-at t) args.Post
+args-returns t c = λ deep h. args-none _ _ _ (c .if1 .taken)
+
+-- src/lib.rt:279:11
+args-term-requires : (t : ℕ) → args-lts.Need-term-requires (
+  term-below t,
+  term.Post,
+  args-below t,
+  args.Post,
+) (args-at t) args.Post
+args-term-requires t c κs = search needs
+
+-- src/lib.rt:280:18
+args-enum-known-m : (t : ℕ) → args-lts.Need-enum-known-m (
+  term-below t,
+  term.Post,
+  args-below t,
+  args.Post,
+) (args-at t) args.Post
+args-enum-known-m t c = search needs
+
+-- src/lib.rt:281:18
+args-enum-known-k : (t : ℕ) → args-lts.Need-enum-known-k (
+  term-below t,
+  term.Post,
+  args-below t,
+  args.Post,
+) (args-at t) args.Post
+args-enum-known-k t c = search needs
+
+-- src/lib.rt:281:67
+args-sub-args : (t : ℕ) → args-lts.Need-sub-args (
+  term-below t,
+  term.Post,
+  args-below t,
+  args.Post,
+) (args-at t) args.Post
+args-sub-args t c = search needs
+
+-- src/lib.rt:281:27
+args-args-requires : (t : ℕ) → args-lts.Need-args-requires (
+  term-below t,
+  term.Post,
+  args-below t,
+  args.Post,
+) (args-at t) args.Post
+args-args-requires t c κs = let h = term-left _ _ _ _ _ _ (c .before .before .before .before .before .before .before .before .before .term .ensures (c .before .before .before .before .before .before .before .before .before .before .before .before .before .before .before .before .before .before .args .left) (omega arith)) (c .before .before .before .k .given .1) in search needs
+
+-- src/lib.rt:263:1
+args-same-length : (t : ℕ) → args-lts.Need-same-length (
+  term-below t,
+  term.Post,
+  args-below t,
+  args.Post,
+) (args-at t) args.Post
+args-same-length t c = search needs
+
+-- src/lib.rt:263:1
+args-same-length-2 : (t : ℕ) → args-lts.Need-same-length-2 (
+  term-below t,
+  term.Post,
+  args-below t,
+  args.Post,
+) (args-at t) args.Post
+args-same-length-2 t c = search needs
+
+-- src/lib.rt:263:1
+args-returns-2 : (t : ℕ) → args-lts.Need-returns-2 (
+  term-below t,
+  term.Post,
+  args-below t,
+  args.Post,
+) (args-at t) args.Post
+args-returns-2 t c = λ deep h. args-some _ _ _ (c .before .before .before .before .before .before .before .before .before .before .if1 .left) (seq-no (c .before .before .before .before .before .before .before .term .ensures deep h) _ (c .before .m .given .1))
+
+-- src/lib.rt:263:1
+args-same-length-3 : (t : ℕ) → args-lts.Need-same-length-3 (
+  term-below t,
+  term.Post,
+  args-below t,
+  args.Post,
+) (args-at t) args.Post
+args-same-length-3 t c = search needs
+
+-- src/lib.rt:263:1
+args-same-length-4 : (t : ℕ) → args-lts.Need-same-length-4 (
+  term-below t,
+  term.Post,
+  args-below t,
+  args.Post,
+) (args-at t) args.Post
+args-same-length-4 t c = search needs
+
+-- src/lib.rt:263:1
+args-returns-3 : (t : ℕ) → args-lts.Need-returns-3 (
+  term-below t,
+  term.Post,
+  args-below t,
+  args.Post,
+) (args-at t) args.Post
+args-returns-3 t c = λ deep h. let e = term-left _ _ _ _ _ _ (c .before .before .before .before .before .before .before .before .before .before .before .before .before .before .term .ensures deep h) (c .before .before .before .before .before .before .before .before .k .given .1) in args-some _ _ _ (c .before .before .before .before .before .before .before .before .before .before .before .before .before .before .before .before .before .if1 .left) (seq-on (c .before .before .before .before .before .before .before .before .before .before .before .before .before .before .term .ensures deep h) _ (c .before .before .before .before .before .before .before .before .k .given .1) (λ g q. seq-last _ (λ x. refl) (rw q (c .before .before .before .before .args2 .ensures deep (omega arith)))))
+
+-- src/lib.rt:256:11
+raised-raise-requires : (t : ℕ) → raised-lts.Need-raise-requires (
+  raise-reads.Asked,
+  raise-reads.Learnt,
+  term-below t,
+  term.Post,
+) (raised-at t) raised.Post
+raised-raise-requires t c κs = search needs
+
+-- src/lib.rt:257:18
+raised-enum-known-m : (t : ℕ) → raised-lts.Need-enum-known-m (
+  raise-reads.Asked,
+  raise-reads.Learnt,
+  term-below t,
+  term.Post,
+) (raised-at t) raised.Post
+raised-enum-known-m t c = search needs
+
+-- src/lib.rt:258:18
+raised-enum-known-f : (t : ℕ) → raised-lts.Need-enum-known-f (
+  raise-reads.Asked,
+  raise-reads.Learnt,
+  term-below t,
+  term.Post,
+) (raised-at t) raised.Post
+raised-enum-known-f t c = search needs
+
+-- src/lib.rt:258:27
+raised-term-requires : (t : ℕ) → raised-lts.Need-term-requires (
+  raise-reads.Asked,
+  raise-reads.Learnt,
+  term-below t,
+  term.Post,
+) (raised-at t) raised.Post
+raised-term-requires t c κs = search needs
+
+-- src/lib.rt:243:1
+raised-same-length : (t : ℕ) → raised-lts.Need-same-length (
+  raise-reads.Asked,
+  raise-reads.Learnt,
+  term-below t,
+  term.Post,
+) (raised-at t) raised.Post
+raised-same-length t c = search needs
+
+-- src/lib.rt:243:1
+raised-same-length-2 : (t : ℕ) → raised-lts.Need-same-length-2 (
+  raise-reads.Asked,
+  raise-reads.Learnt,
+  term-below t,
+  term.Post,
+) (raised-at t) raised.Post
+raised-same-length-2 t c = search needs
+
+-- src/lib.rt:243:1
+raised-returns : (t : ℕ) → raised-lts.Need-returns (
+  raise-reads.Asked,
+  raise-reads.Learnt,
+  term-below t,
+  term.Post,
+) (raised-at t) raised.Post
+unfolding a-raised
+raised-returns t c = λ deep h. seq-no (c .before .before .before .before .before .before .before .raise .ensures) _ (c .before .m .given .1)
+
+-- src/lib.rt:243:1
+raised-same-length-3 : (t : ℕ) → raised-lts.Need-same-length-3 (
+  raise-reads.Asked,
+  raise-reads.Learnt,
+  term-below t,
+  term.Post,
+) (raised-at t) raised.Post
+raised-same-length-3 t c = search needs
+
+-- src/lib.rt:243:1
+raised-same-length-4 : (t : ℕ) → raised-lts.Need-same-length-4 (
+  raise-reads.Asked,
+  raise-reads.Learnt,
+  term-below t,
+  term.Post,
+) (raised-at t) raised.Post
+raised-same-length-4 t c = search needs
+
+-- src/lib.rt:243:1
+raised-returns-2 : (t : ℕ) → raised-lts.Need-returns-2 (
+  raise-reads.Asked,
+  raise-reads.Learnt,
+  term-below t,
+  term.Post,
+) (raised-at t) raised.Post
+unfolding a-raised
+raised-returns-2 t c = λ deep h. seq-on (c .before .before .before .before .before .before .before .before .before .before .before .before .before .before .raise .ensures) _ (c .before .before .before .before .before .before .before .before .f .given .1) (λ p q. seq-last _ (λ g. refl) (rw q (c .before .before .before .before .term .ensures deep h)))
+
+-- src/lib.rt:211:9
+term-returns : (t : ℕ) → term-lts.Need-returns (
+  take-reads.Asked,
+  take-reads.Learnt,
+  variable-reads.Asked,
+  variable-reads.Learnt,
+  applied-below t,
+  applied.Post,
+  raised-below t,
+  raised.Post,
+) (term-at t) term.Post
+term-returns t c = λ deep h. term-none _ _ _ _ _ _ (c .if1 .taken)
+
+-- src/lib.rt:213:11
+term-take-requires : (t : ℕ) → term-lts.Need-take-requires (
+  take-reads.Asked,
+  take-reads.Learnt,
+  variable-reads.Asked,
+  variable-reads.Learnt,
+  applied-below t,
+  applied.Post,
+  raised-below t,
+  raised.Post,
+) (term-at t) term.Post
+term-take-requires t c κs = search needs
+
+-- src/lib.rt:214:18
+term-enum-known-m : (t : ℕ) → term-lts.Need-enum-known-m (
+  take-reads.Asked,
+  take-reads.Learnt,
+  variable-reads.Asked,
+  variable-reads.Learnt,
+  applied-below t,
+  applied.Post,
+  raised-below t,
+  raised.Post,
+) (term-at t) term.Post
+term-enum-known-m t c = search needs
+
+-- src/lib.rt:215:18
+term-enum-known-tag : (t : ℕ) → term-lts.Need-enum-known-tag (
+  take-reads.Asked,
+  take-reads.Learnt,
+  variable-reads.Asked,
+  variable-reads.Learnt,
+  applied-below t,
+  applied.Post,
+  raised-below t,
+  raised.Post,
+) (term-at t) term.Post
+term-enum-known-tag t c = search needs
+
+-- src/lib.rt:216:50
+term-sub-variable : (t : ℕ) → term-lts.Need-sub-variable (
+  take-reads.Asked,
+  take-reads.Learnt,
+  variable-reads.Asked,
+  variable-reads.Learnt,
+  applied-below t,
+  applied.Post,
+  raised-below t,
+  raised.Post,
+) (term-at t) term.Post
+term-sub-variable t c = search needs
+
+-- src/lib.rt:216:18
+term-variable-requires : (t : ℕ) → term-lts.Need-variable-requires (
+  take-reads.Asked,
+  take-reads.Learnt,
+  variable-reads.Asked,
+  variable-reads.Learnt,
+  applied-below t,
+  applied.Post,
+  raised-below t,
+  raised.Post,
+) (term-at t) term.Post
+term-variable-requires t c κs = search needs
+
+-- src/lib.rt:217:61
+term-sub-applied : (t : ℕ) → term-lts.Need-sub-applied (
+  take-reads.Asked,
+  take-reads.Learnt,
+  variable-reads.Asked,
+  variable-reads.Learnt,
+  applied-below t,
+  applied.Post,
+  raised-below t,
+  raised.Post,
+) (term-at t) term.Post
+term-sub-applied t c = search needs
+
+-- src/lib.rt:217:18
+term-applied-requires : (t : ℕ) → term-lts.Need-applied-requires (
+  take-reads.Asked,
+  take-reads.Learnt,
+  variable-reads.Asked,
+  variable-reads.Learnt,
+  applied-below t,
+  applied.Post,
+  raised-below t,
+  raised.Post,
+) (term-at t) term.Post
+term-applied-requires t c κs = search needs
+
+-- src/lib.rt:218:67
+term-sub-raised : (t : ℕ) → term-lts.Need-sub-raised (
+  take-reads.Asked,
+  take-reads.Learnt,
+  variable-reads.Asked,
+  variable-reads.Learnt,
+  applied-below t,
+  applied.Post,
+  raised-below t,
+  raised.Post,
+) (term-at t) term.Post
+term-sub-raised t c = search needs
+
+-- src/lib.rt:218:18
+term-raised-requires : (t : ℕ) → term-lts.Need-raised-requires (
+  take-reads.Asked,
+  take-reads.Learnt,
+  variable-reads.Asked,
+  variable-reads.Learnt,
+  applied-below t,
+  applied.Post,
+  raised-below t,
+  raised.Post,
+) (term-at t) term.Post
+term-raised-requires t c κs = search needs
+
+-- src/lib.rt:196:1
+term-same-length : (t : ℕ) → term-lts.Need-same-length (
+  take-reads.Asked,
+  take-reads.Learnt,
+  variable-reads.Asked,
+  variable-reads.Learnt,
+  applied-below t,
+  applied.Post,
+  raised-below t,
+  raised.Post,
+) (term-at t) term.Post
+term-same-length t c = search needs
+
+-- src/lib.rt:196:1
+term-same-length-2 : (t : ℕ) → term-lts.Need-same-length-2 (
+  take-reads.Asked,
+  take-reads.Learnt,
+  variable-reads.Asked,
+  variable-reads.Learnt,
+  applied-below t,
+  applied.Post,
+  raised-below t,
+  raised.Post,
+) (term-at t) term.Post
+term-same-length-2 t c = search needs
+
+-- src/lib.rt:196:1
+term-returns-2 : (t : ℕ) → term-lts.Need-returns-2 (
+  take-reads.Asked,
+  take-reads.Learnt,
+  variable-reads.Asked,
+  variable-reads.Learnt,
+  applied-below t,
+  applied.Post,
+  raised-below t,
+  raised.Post,
+) (term-at t) term.Post
+term-returns-2 t c = λ deep h. term-some _ _ _ _ _ _ (c .before .before .before .before .before .before .before .before .before .before .if1 .left) h (λ d k. seq-no (c .before .before .before .before .before .before .before .take .ensures) _ (c .before .m .given .1))
+
+-- src/lib.rt:196:1
+term-same-length-3 : (t : ℕ) → term-lts.Need-same-length-3 (
+  take-reads.Asked,
+  take-reads.Learnt,
+  variable-reads.Asked,
+  variable-reads.Learnt,
+  applied-below t,
+  applied.Post,
+  raised-below t,
+  raised.Post,
+) (term-at t) term.Post
+term-same-length-3 t c = search needs
+
+-- src/lib.rt:196:1
+term-same-length-4 : (t : ℕ) → term-lts.Need-same-length-4 (
+  take-reads.Asked,
+  take-reads.Learnt,
+  variable-reads.Asked,
+  variable-reads.Learnt,
+  applied-below t,
+  applied.Post,
+  raised-below t,
+  raised.Post,
+) (term-at t) term.Post
+term-same-length-4 t c = search needs
+
+-- src/lib.rt:196:1
+term-returns-3 : (t : ℕ) → term-lts.Need-returns-3 (
+  take-reads.Asked,
+  take-reads.Learnt,
+  variable-reads.Asked,
+  variable-reads.Learnt,
+  applied-below t,
+  applied.Post,
+  raised-below t,
+  raised.Post,
+) (term-at t) term.Post
+term-returns-3 t c = λ deep h. term-some _ _ _ _ _ _ (c .before .before .before .before .before .before .before .before .before .before .before .before .before .before .before .before .before .before .if1 .left) h (λ d k. seq-at _ (c .before .before .before .before .before .before .before .before .before .before .before .before .before .before .before .take .ensures) (c .before .before .before .before .before .before .before .before .before .tag .given .1) (rw (node-variable _ _ _ _ _ _ (c .before .before .before .before .before .before .before .match2 .keys1)) (c .before .before .before .before .variable .ensures)))
+
+-- src/lib.rt:196:1
+term-same-length-5 : (t : ℕ) → term-lts.Need-same-length-5 (
+  take-reads.Asked,
+  take-reads.Learnt,
+  variable-reads.Asked,
+  variable-reads.Learnt,
+  applied-below t,
+  applied.Post,
+  raised-below t,
+  raised.Post,
+) (term-at t) term.Post
+term-same-length-5 t c = search needs
+
+-- src/lib.rt:196:1
+term-same-length-6 : (t : ℕ) → term-lts.Need-same-length-6 (
+  take-reads.Asked,
+  take-reads.Learnt,
+  variable-reads.Asked,
+  variable-reads.Learnt,
+  applied-below t,
+  applied.Post,
+  raised-below t,
+  raised.Post,
+) (term-at t) term.Post
+term-same-length-6 t c = search needs
+
+-- src/lib.rt:196:1
+term-returns-4 : (t : ℕ) → term-lts.Need-returns-4 (
+  take-reads.Asked,
+  take-reads.Learnt,
+  variable-reads.Asked,
+  variable-reads.Learnt,
+  applied-below t,
+  applied.Post,
+  raised-below t,
+  raised.Post,
+) (term-at t) term.Post
+term-returns-4 t c = λ deep h. term-some _ _ _ _ _ _ (c .before .before .before .before .before .before .before .before .before .before .before .before .before .before .before .before .before .before .if1 .left) h (λ d k. seq-at _ (c .before .before .before .before .before .before .before .before .before .before .before .before .before .before .before .take .ensures) (c .before .before .before .before .before .before .before .before .before .tag .given .1) (rw (node-applied _ _ _ _ _ _ (c .before .before .before .before .before .before .before .match2 .keys2)) (c .before .before .before .before .applied .ensures d k)))
+
+-- src/lib.rt:196:1
+term-same-length-7 : (t : ℕ) → term-lts.Need-same-length-7 (
+  take-reads.Asked,
+  take-reads.Learnt,
+  variable-reads.Asked,
+  variable-reads.Learnt,
+  applied-below t,
+  applied.Post,
+  raised-below t,
+  raised.Post,
+) (term-at t) term.Post
+term-same-length-7 t c = search needs
+
+-- src/lib.rt:196:1
+term-same-length-8 : (t : ℕ) → term-lts.Need-same-length-8 (
+  take-reads.Asked,
+  take-reads.Learnt,
+  variable-reads.Asked,
+  variable-reads.Learnt,
+  applied-below t,
+  applied.Post,
+  raised-below t,
+  raised.Post,
+) (term-at t) term.Post
+term-same-length-8 t c = search needs
+
+-- src/lib.rt:196:1
+term-returns-5 : (t : ℕ) → term-lts.Need-returns-5 (
+  take-reads.Asked,
+  take-reads.Learnt,
+  variable-reads.Asked,
+  variable-reads.Learnt,
+  applied-below t,
+  applied.Post,
+  raised-below t,
+  raised.Post,
+) (term-at t) term.Post
+term-returns-5 t c = λ deep h. term-some _ _ _ _ _ _ (c .before .before .before .before .before .before .before .before .before .before .before .before .before .before .before .before .before .before .if1 .left) h (λ d k. seq-at _ (c .before .before .before .before .before .before .before .before .before .before .before .before .before .before .before .take .ensures) (c .before .before .before .before .before .before .before .before .before .tag .given .1) (rw (node-raised _ _ _ _ _ _ (c .before .before .before .before .before .before .before .match2 .rest .0 .1) (c .before .before .before .before .before .before .before .match2 .rest .1)) (c .before .before .before .before .raised .ensures d k)))
+
+pub +applied+args+raised+term-spec : {M : Type 1} → statement M
++applied+args+raised+term-spec = close μ-applied μ-args μ-raised μ-term (λ t. applied-lts.spec (
+  symbol-reads.Asked,
+  symbol-reads.Learnt,
+  args-below t,
+  args.Post,
+)
+    (applied-at t)
+    applied.Post
+    (applied-symbol-requires t)
+    (applied-enum-known-m t)
+    (applied-enum-known-n t)
+    (applied-args-requires t)
+    (applied-same-length t)
+    (applied-same-length-2 t)
+    (applied-returns t)
+    (applied-same-length-3 t)
+    (applied-same-length-4 t)
+    (applied-returns-2 t))
+    (λ t. args-lts.spec
+    (term-below t, term.Post, args-below t, args.Post)
+    (args-at t)
+    args.Post
+    (args-returns t)
+    (args-term-requires t)
+    (args-enum-known-m t)
+    (args-enum-known-k t)
+    (args-sub-args t)
+    (args-args-requires t)
+    (args-same-length t)
+    (args-same-length-2 t)
+    (args-returns-2 t)
+    (args-same-length-3 t)
+    (args-same-length-4 t)
+    (args-returns-3 t))
+    (λ t. raised-lts.spec
+    (raise-reads.Asked, raise-reads.Learnt, term-below t, term.Post)
+    (raised-at t)
+    raised.Post
+    (raised-raise-requires t)
+    (raised-enum-known-m t)
+    (raised-enum-known-f t)
+    (raised-term-requires t)
+    (raised-same-length t)
+    (raised-same-length-2 t)
+    (raised-returns t)
+    (raised-same-length-3 t)
+    (raised-same-length-4 t)
+    (raised-returns-2 t))
+    λ t. term-lts.spec (
+      take-reads.Asked,
+      take-reads.Learnt,
+      variable-reads.Asked,
+      variable-reads.Learnt,
+      applied-below t,
+      applied.Post,
+      raised-below t,
+      raised.Post,
+    )
+    (term-at t)
+    term.Post
+    (term-returns t)
+    (term-take-requires t)
+    (term-enum-known-m t)
+    (term-enum-known-tag t)
+    (term-sub-variable t)
+    (term-variable-requires t)
+    (term-sub-applied t)
+    (term-applied-requires t)
+    (term-sub-raised t)
+    (term-raised-requires t)
+    (term-same-length t)
+    (term-same-length-2 t)
+    (term-returns-2 t)
+    (term-same-length-3 t)
+    (term-same-length-4 t)
+    (term-returns-3 t)
+    (term-same-length-5 t)
+    (term-same-length-6 t)
+    (term-returns-4 t)
+    (term-same-length-7 t)
+    (term-same-length-8 t)
+    (term-returns-5 t)

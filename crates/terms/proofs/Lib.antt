@@ -1,0 +1,4 @@
+-- The laws of the walk over terms.
+pub mod Symbols
+pub mod Nodes
+pub mod Fillings

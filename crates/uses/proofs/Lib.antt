@@ -1,0 +1,2 @@
+-- The laws of the walk over uses.
+pub mod Cases

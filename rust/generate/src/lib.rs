@@ -1,0 +1,13 @@
+//! A seeded generator of (book, certificate) pairs: accepted ones of many
+//! shapes, well-formed ones that fail at a chosen part, and damaged ones.
+
+pub mod damage;
+pub mod faults;
+pub mod inputs;
+pub mod random;
+pub mod scramble;
+pub mod shapes;
+pub mod solve;
+pub mod tally;
+pub mod world;
+pub mod writing;

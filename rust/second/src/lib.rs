@@ -1,0 +1,23 @@
+//! A second implementation of the certificate judge, its reader and its
+//! writer, made from the document "Build scope and exact rules" (01) alone.
+//!
+//! Words in quotation marks in the comments are the document's own.
+
+pub mod answer;
+pub mod derive;
+pub mod files;
+pub mod grammar;
+pub mod judging;
+pub mod model;
+pub mod replay;
+pub mod source;
+pub mod spell;
+pub mod term;
+
+pub use answer::{verdict_line, Answer, Refusal, Verdict};
+pub use files::{
+    parse_book, parse_certificate, read_book, read_certificate, write_book, write_certificate,
+};
+pub use judging::{judge, judge_input};
+pub use model::{Book, Certificate, Closing, Filling, Line, Proof, Rule, Use};
+pub use term::Term;
