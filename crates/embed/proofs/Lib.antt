@@ -1,2 +1,0 @@
--- The laws of the answers as numbers.
-pub mod Telling

@@ -1,2 +1,0 @@
--- The answers of reading and writing as numbers.
-pub mod Numbers
