@@ -65,7 +65,7 @@ unfolding arityAt numberAt fieldAt
 in-bytes-only s l f = refl
 
 module _ (book l counts : List ℕ) (h : Beside book counts) where
-  arities-known : (λ f. arityAt book l false f) ≡ arity-in (h .tree .arities)
+  pub arities-known : (λ f. arityAt book l false f) ≡ arity-in (h .tree .arities)
   unfolding open-book
   arities-known =
       let x = in-bytes book-place a-book book (h .opened) in

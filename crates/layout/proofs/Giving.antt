@@ -19,15 +19,20 @@ use Rattle.fields.specs.Run.{Ran}
 use Rattle.fields.proofs.Sinks.{values, sets, puts, sets-first, puts-first}
 use Rattle.fields.proofs.Found.{trace-narrow}
 use Rattle.grammar.specs.Books.{RuleBook, a-book}
+use Rattle.grammar.specs.Certificates.{a-certificate}
+use Rattle.terms.specs.Arity.{arityAt}
+use Rattle.terms.specs.Values.{nothing}
 use Rattle.books.specs.Counts.{start}
 use Rattle.layout.specs.Files.{Opened, good, bad, refusal-at, open-bytes, open-list, certificate-of, open-book, open-certificate}
 use Rattle.layout.specs.declared.Opening.{Opening}
 use Rattle.layout.specs.declared.Place.{Place}
-use Rattle.layout.specs.Openings.{sight, seen, seen-bytes, seen-list, Beside}
+use Rattle.layout.specs.declared.Place.the-variants.{Certificate}
+use Rattle.layout.specs.Openings.{sight, seen, seen-bytes, seen-list, CertificateOpened, Beside}
 use Rattle.layout.specs.Answers.{w-of, Given, gives, refuses, listed, written, within, beside, reading-book, writing-book, listing-beside, writing-beside, reading-certificate, writing-certificate}
 use Rattle.layout.proofs.FileEnds.{words-after, bytes-after, bytes-seen, list-seen}
 use Rattle.layout.proofs.Answering.{Good}
 use Rattle.layout.proofs.Opens.{InBytes, InList}
+use Rattle.layout.proofs.Besides.{beside-ran}
 
 -- ---- too long, or not
 
@@ -110,15 +115,27 @@ bytes-told s p val o place h e = e ∙ bytes-seen s p val h (w-of place)
 -- ---- a certificate beside its book
 
 module _ (book counts : List ℕ) (h : Beside book counts) where
-  pub listing-is : (s : List ℕ) → listing-beside book s ≡ listed (open-bytes certificate-place (certificate-of (h .tree)) s)
-  unfolding listing-beside open-certificate
-  listing-is s = ap (λ x. beside x λ b. listed (open-certificate b s)) (h .opened)
-
   pub writing-is : (l : List ℕ)
       → writing-beside book l ≡ written certificate-place 32768 (open-list certificate-place (certificate-of (h .tree)) l)
   unfolding writing-beside
   writing-is l =
       ap (λ x. beside x λ b. written certificate-place 32768 (open-list certificate-place (certificate-of b) l)) (h .opened)
+
+  -- the first walk over it
+  pub certificate-opened : {s ws bs ws₁ bs₁ : List ℕ} {x : Walk} (o : Opening)
+      → Ran (from s []) (a-certificate (λ f. arityAt book [] false f) counts) (start false) ws bs nothing x ws₁ bs₁
+      → sight o ≡ seen-bytes (w-of Certificate) s x → CertificateOpened book s o
+  unfolding open-certificate w-of
+  certificate-opened {s} o k e = record {
+    told = λ b fs q.
+        let same : good (h .tree) (h .fields) ≡ good b fs = sym (h .opened) ∙ q in
+        subst (λ t. sight o ≡ seen nothing (open-certificate t s)) (cc same)
+        (bytes-told s (certificate-of (h .tree)) nothing o Certificate (beside-ran book [] counts h k) e);
+  }
+
+  pub certificate-is : (s : List ℕ) → listing-beside book s ≡ listed (open-certificate (h .tree) s)
+  unfolding listing-beside
+  certificate-is s = ap (λ x. beside x λ b. listed (open-certificate b s)) (h .opened)
 
 -- ---- a certificate with its book
 

@@ -11,9 +11,10 @@ use Rattle.fields.specs.declared.Walk.{Walk}
 use Rattle.fields.specs.declared.Walk.the-variants.{On, No}
 use Rattle.grammar.specs.Books.{RuleBook}
 use Rattle.grammar.specs.Limits.{call-counts}
+use Rattle.terms.specs.Values.{nothing}
 use Rattle.layout.specs.declared.Opening.{Opening}
 use Rattle.layout.specs.declared.Opening.the-variants.{Open, Shut}
-use Rattle.layout.specs.Files.{Opened, good, bad, refusal-at, ends-at, open-book}
+use Rattle.layout.specs.Files.{Opened, good, bad, refusal-at, ends-at, open-book, open-certificate}
 use Rattle.layout.specs.Answers.{paper-refusal}
 
 -- a number, the fields and the bits of a good file; or the refusal
@@ -34,6 +35,10 @@ pub record BookOpened (s : List ℕ) (r : Opening) (counts : List ℕ) : Type 0 
   pub told : sight r ≡ seen (λ b. length (b .rules)) (open-book s)
   pub noted : (b : RuleBook) (fs : List (ℕ × ℕ)) → open-book s ≡ good b fs
       → take (length (b .rules)) counts ≡ call-counts (b .rules)
+
+-- the certificate beside a good book was opened
+pub record CertificateOpened (book s : List ℕ) (r : Opening) : Type 0 where
+  pub told : (b : RuleBook) (fs : List (ℕ × ℕ)) → open-book book ≡ good b fs → sight r ≡ seen nothing (open-certificate b s)
 
 -- what a walk over bytes, or over a list, comes to once its end is looked at
 unfoldable pub seen-bytes : ℕ → List ℕ → Walk → Sight

@@ -6,7 +6,7 @@ ghost use Prim.Native.Nat.{_≤_, _*_};
 ghost use lib.ListN.{length};
 ghost use Rattle.patterns.specs.Refusal.{book-place, certificate-place};
 ghost use Rattle.layout.specs.Files.{refusal-at, ends-at};
-ghost use Rattle.layout.specs.Openings.{bits-of, sight, seen-bytes, seen-list, BookOpened, Beside};
+ghost use Rattle.layout.specs.Openings.{bits-of, sight, seen-bytes, seen-list, BookOpened, CertificateOpened, Beside};
 ghost use Rattle.layout.specs.Answers.{
   reading-book,
   writing-book,
@@ -131,7 +131,7 @@ fn opened_list(l: &[u16], place: Place, w: Walk) -> Opening
 }
 
 // Reads a book to its end; how many calls each rule has is noted.
-fn open_book(s: &[u8], counts: &mut [u8]) -> Opening
+pub fn open_book(s: &[u8], counts: &mut [u8]) -> Opening
     requires { ⌜ (length (now s) ≤ 16384) × (256 ≤ length (now counts)) ⌝ }
     ensures { λ r. ⌜ BookOpened (now (s .entry)) r (now (counts .exit)) ⌝ }
 {
@@ -191,11 +191,10 @@ pub fn write_book(fields: &[u16], out: &mut [u8]) -> Answer
     }
 }
 
-// Reads the bytes of a certificate, beside its good book, into a list of its fields.
-fn list_certificate(book: &[u8], counts: &[u8], s: &[u8], out: &mut [u16]) -> Answer
+// Reads a certificate, beside its good book, to its end.
+pub fn open_certificate(book: &[u8], counts: &[u8], s: &[u8]) -> Opening
     requires { ⌜ Beside (now book) (now counts) × (length (now s) ≤ 32768) ⌝ }
-    ensures answered { λ r. ⌜ paper r ≡ told certificate-place (listing-beside (now (book .entry)) (now (s .entry))) (length (now (out .entry))) ⌝ }
-    ensures filled { λ r. ⌜ now (out .exit) ≡ output (listing-beside (now (book .entry)) (now (s .entry))) (now (out .entry)) ⌝ }
+    ensures { λ r. ⌜ CertificateOpened (now (book .entry)) (now (s .entry)) r ⌝ }
 {
     let none = [0u16; 0];
     let mut words = [0u16; 0];
@@ -206,12 +205,28 @@ fn list_certificate(book: &[u8], counts: &[u8], s: &[u8], out: &mut [u16]) -> An
         listed: false,
     };
     let w = certificates::certificate(book, counts, s, &none, &mut words, &mut bytes, first);
-    match opened(s, Place::Certificate, w) {
+    opened(s, Place::Certificate, w)
+}
+
+// Reads the bytes of a certificate, beside its good book, into a list of its fields.
+fn list_certificate(book: &[u8], counts: &[u8], s: &[u8], out: &mut [u16]) -> Answer
+    requires { ⌜ Beside (now book) (now counts) × (length (now s) ≤ 32768) ⌝ }
+    ensures answered { λ r. ⌜ paper r ≡ told certificate-place (listing-beside (now (book .entry)) (now (s .entry))) (length (now (out .entry))) ⌝ }
+    ensures filled { λ r. ⌜ now (out .exit) ≡ output (listing-beside (now (book .entry)) (now (s .entry))) (now (out .entry)) ⌝ }
+{
+    match open_certificate(book, counts, s) {
         Opening::Shut(r) => Answer::Refused(r),
         Opening::Open(_, n, _) => {
             if n > out.len() {
                 return refused(8, Place::Certificate);
             }
+            let none = [0u16; 0];
+            let mut bytes = [0u8; 0];
+            let first = Cursor {
+                bit: 0,
+                n: 0,
+                listed: false,
+            };
             let _again = certificates::certificate(book, counts, s, &none, out, &mut bytes, first);
             Answer::Filled(n)
         }

@@ -29,7 +29,7 @@ fn number(book: &[u8], l: &[u16], w: usize, c: Cursor, other: u16) -> u16
 }
 
 // The arity of a symbol, 16 where there is no such symbol.
-fn arity(book: &[u8], l: &[u16], listed: bool, f: u16) -> u16
+pub fn arity(book: &[u8], l: &[u16], listed: bool, f: u16) -> u16
     ensures { λ r. ⌜ r ≡ arityAt (now (book .entry)) (now (l .entry)) listed f ⌝ }
 {
     let first = Cursor {

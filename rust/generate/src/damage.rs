@@ -86,7 +86,7 @@ pub fn change_trees(case: &mut Case, random: &mut Random) {
         6 => change_a_filling(case, random),
         7 => change_the_lines(case, random),
         8 => change_the_closing(case, random),
-        _ => change_the_book(case, random),
+        _ => change_book(case, random),
     }
 }
 
@@ -217,16 +217,22 @@ fn change_the_closing(case: &mut Case, random: &mut Random) {
     }
 }
 
-fn change_the_book(case: &mut Case, random: &mut Random) {
+/// Changes arities, rules or their order.
+pub fn change_book(case: &mut Case, random: &mut Random) {
     let book = &mut case.book;
     let symbol = random.below(book.arities.len());
-    match random.below(4) {
+    let place = random.below(book.rules.len());
+    match random.below(5) {
         0 if !book.arities.is_empty() => book.arities[symbol] = random.between(0, 15) as u8,
         1 => {
             book.arities.pop();
         }
         2 => {
             book.rules.pop();
+        }
+        3 if !book.rules.is_empty() => {
+            let head = &mut book.rules[place].head;
+            *head = tall(head.clone(), &book.arities, random);
         }
         _ => random.shuffle(&mut book.rules),
     }

@@ -268,7 +268,8 @@ fn use_a_line_with_right(line: &mut Line, earlier: &[Line], random: &mut Random)
     if before.is_empty() || with_right.is_empty() {
         return None;
     }
-    let place = random.below(before.len());
+    let last = before.len() - 1;
+    let place = if random.chance(1, 2) { last } else { random.below(last + 1) };
     before[place].line = *random.pick(&with_right) as u8;
     Some(())
 }
@@ -350,6 +351,11 @@ pub fn large_side(random: &mut Random) -> Option<Case> {
     arguments.push(var(1));
     let big = || fun(BIG, &arguments);
     let c = || fun(C, &[]);
+    // c :- c, ..., c, big(..), c, ...: the large call is call `place`.
+    let place = random.between(1, 8) as usize;
+    let mut calls = vec![c(); place + random.below(9 - place)];
+    calls[place - 1] = big();
+    let stops = calls.len().min(place + 1) as u64;
     let rules = [
         rule(big(), &[]),
         rule(c(), &[big(), c()]),
@@ -358,6 +364,7 @@ pub fn large_side(random: &mut Random) -> Option<Case> {
         rule(c(), &[c()]),
         rule(c(), &[c(), c(), big(), big(), c()]),
         rule(c(), &[]),
+        rule(c(), &calls),
     ];
     let mut world = World::new(&[1, 0, 1, 8], &rules);
     let fact = world.fact(0, &[])?;
@@ -381,7 +388,15 @@ pub fn large_side(random: &mut Random) -> Option<Case> {
     };
     let mut closing = Closing { line: to_c as u8, k: 0, alpha: 0, filling: Vec::new() };
     let either = *random.pick(&[fact, from_big, from_big]);
-    let line = match random.below(14) {
+    let line = match random.below(18) {
+        14..=17 => {
+            let stop = random.between(place as u64, stops) as usize;
+            let used = if place < stop { fact } else { either };
+            let mut before = vec![fact_c; place - 1];
+            before.push(use_with(used, &other));
+            let last = if place == stop { before.pop() } else { None };
+            unfold(c(), right, 7, stop as u8, &before, last)
+        }
         10 => unfold(c(), right, 1, 1, &[], Some(use_with(either, &other))),
         11 => {
             let before = [fact_c.clone(), fact_c];

@@ -170,7 +170,7 @@ pub fn descent_to_a_call(random: &mut Random) -> Option<Case> {
 /// loop(x) :- c1, ..., cj, loop(s(x)), d1, ... with facts for the c.
 pub fn several_calls(random: &mut Random) -> Option<Case> {
     let before = random.between(1, 7) as usize;
-    let after = random.below(8 - before);
+    let after = if random.chance(1, 3) { 0 } else { random.below(8 - before) };
     let side = |t: Term| fun(2, &[t, y()]);
     let goal = |number: usize| fun(3, &[x(), s(0, 1 + number as u64, y())]);
     let mut calls: Vec<Term> = (0..before).map(goal).collect();

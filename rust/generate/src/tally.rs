@@ -32,7 +32,7 @@ impl Tally {
             (Verdict::Accepted { .. }, _) => self.accepted_after_damage += 1,
             (Verdict::Refused(refusal), kind) => {
                 self.missed += usize::from(matches!(kind, Kind::Accepted(_)));
-                let place = (refusal.number, refusal.w, part_of(input, refusal));
+                let place = (refusal.number, refusal.w, part_of(&input.framed, refusal));
                 *self.refused.entry(place).or_default() += 1;
             }
         }
@@ -56,12 +56,17 @@ impl Tally {
     }
 }
 
-/// The part in words: the kind of line, j against the stop, and the large side.
-fn part_of(input: &Input, refusal: &Refusal) -> String {
+fn part_of(framed: &[u8], refusal: &Refusal) -> String {
     if refusal.number < 9 {
         return String::new();
     }
-    let (book, certificate) = files_of(&input.framed);
+    let (book, certificate) = files_of(framed);
+    part_in_words(book, certificate, refusal)
+}
+
+/// The part of a refusal from 9 on: the kind of line, j against the stop, and the
+/// large side.
+pub fn part_in_words(book: &[u8], certificate: &[u8], refusal: &Refusal) -> String {
     let (book, certificate) =
         parse_both(book, certificate).expect("a refusal from 9 on speaks of well-formed files");
     if refusal.w == 3 {

@@ -1,7 +1,7 @@
 //! Tasks for the reader and the writer: packed files and field lists, whole or
 //! damaged, with outputs of many lengths.
 
-use crate::damage::{change_fields, change_trees};
+use crate::damage::{change_book, change_bytes, change_fields, change_trees};
 use crate::faults::accepted;
 use crate::inputs::Inputs;
 use crate::random::Random;
@@ -74,7 +74,10 @@ impl Tasks {
     }
 
     fn read_book(&mut self) -> Task {
-        let book = self.inputs.next_input().book;
+        let book = match self.random.below(4) {
+            0 => pack_book(&self.case().book),
+            _ => self.inputs.next_input().book,
+        };
         let count = match second::files::parse_book(&book) {
             Ok(book) => book_fields(&book).len(),
             Err(_) => 0,
@@ -106,8 +109,10 @@ impl Tasks {
         let length = pack(&fields).len();
         let fields = self.perhaps_damaged(fields);
         let mut book = pack_book(&case.book);
-        if self.random.chance(1, 12) {
-            crate::damage::change_bytes(&mut book, &mut self.random);
+        match self.random.below(40) {
+            0..=2 => change_bytes(&mut book, &mut self.random),
+            3 => book.resize(16_384 + self.random.below(2), 0),
+            _ => (),
         }
         let room = self.room(length);
         Task::WriteCertificate { book, fields, room }
@@ -116,8 +121,10 @@ impl Tasks {
     /// An accepted pair, now and then with its trees changed.
     fn case(&mut self) -> Case {
         let (_, mut case) = accepted(&mut self.random);
-        if self.random.chance(1, 4) {
-            change_trees(&mut case, &mut self.random);
+        match self.random.below(12) {
+            0 => change_book(&mut case, &mut self.random),
+            1..=3 => change_trees(&mut case, &mut self.random),
+            _ => (),
         }
         case
     }

@@ -3,6 +3,7 @@
 use crate::lexer::{tokens, Position, Token};
 use crate::symbols::Symbols;
 use crate::TextError;
+use second::spell::Field;
 
 /// Text nested deeper than this is not read; files hold at most 256 nodes.
 const DEEPEST: usize = 2_000;
@@ -11,8 +12,8 @@ pub struct Reader {
     tokens: Vec<(Token, Position)>,
     at: usize,
     pub symbols: Symbols,
-    /// The field list so far, and where each field was written.
-    pub fields: Vec<u16>,
+    /// The fields so far, and where each was written.
+    pub fields: Vec<Field>,
     pub positions: Vec<Position>,
     /// Where the arities of the symbol table stand.
     pub arity_positions: Vec<Position>,
@@ -122,29 +123,29 @@ impl Reader {
 
     // -------------------------------------------------------- fields
 
-    pub fn put(&mut self, value: u16, position: Position) {
-        self.fields.push(value);
+    pub fn put(&mut self, value: u16, width: u32, position: Position) {
+        self.fields.push(Field { value, width });
         self.positions.push(position);
     }
 
     /// A number that is a field.
-    pub fn number_field(&mut self) -> Read<u16> {
+    pub fn number_field(&mut self, width: u32) -> Read<u16> {
         let position = self.position();
         let number = self.number()?;
-        self.put(number, position);
+        self.put(number, width, position);
         Ok(number)
     }
 
     /// A field whose value, a count, is known later.
-    pub fn open_count(&mut self) -> usize {
-        self.put(0, self.position());
+    pub fn open_count(&mut self, width: u32) -> usize {
+        self.put(0, width, self.position());
         self.fields.len() - 1
     }
 
     pub fn close_count(&mut self, place: usize, count: usize) -> Read<()> {
         match u16::try_from(count) {
             Ok(count) => {
-                self.fields[place] = count;
+                self.fields[place].value = count;
                 Ok(())
             }
             Err(_) => self.wrong("too many to be counted in a field"),
@@ -186,8 +187,8 @@ impl Reader {
         }
         match variable_number(&name) {
             Some(number) => {
-                self.put(0, position);
-                self.put(number, position);
+                self.put(0, 2, position);
+                self.put(number, 6, position);
                 Ok(())
             }
             None => self.application(&name, position, depth),
@@ -199,8 +200,8 @@ impl Reader {
             let message = format!("`{name}` is neither a symbol of the table nor a variable");
             return Err(TextError::Form { position, message });
         };
-        self.put(if arity == 1 { 2 } else { 1 }, position);
-        self.put(number as u16, position);
+        self.put(if arity == 1 { 2 } else { 1 }, 2, position);
+        self.put(number as u16, 8, position);
         if arity == 1 {
             self.exponent(position)?;
         } else if self.is_sign("^") {
@@ -212,14 +213,14 @@ impl Reader {
     /// `^{a,b}`; nothing means `^{0,1}`.
     fn exponent(&mut self, position: Position) -> Read<()> {
         if !self.sign_follows("^") {
-            self.put(0, position);
-            self.put(1, position);
+            self.put(0, 12, position);
+            self.put(1, 12, position);
             return Ok(());
         }
         self.expect_sign("{")?;
-        self.number_field()?;
+        self.number_field(12)?;
         self.expect_sign(",")?;
-        self.number_field()?;
+        self.number_field(12)?;
         self.expect_sign("}")
     }
 
@@ -242,7 +243,7 @@ impl Reader {
 
     /// `{ X = term, ... }`
     pub fn filling(&mut self) -> Read<()> {
-        let place = self.open_count();
+        let place = self.open_count(7);
         self.expect_sign("{")?;
         let mut count = 0;
         while !self.sign_follows("}") {
@@ -262,7 +263,7 @@ impl Reader {
         let name = self.any_word("a variable")?;
         match variable_number(&name) {
             Some(number) => {
-                self.put(number, position);
+                self.put(number, 6, position);
                 Ok(())
             }
             None => {

@@ -1,5 +1,6 @@
 //! Words, numbers and signs of the text form.
 
+use crate::repeat::repeated;
 use crate::TextError;
 use std::fmt;
 
@@ -25,10 +26,15 @@ pub enum Token {
     End,
 }
 
-const SIGNS: [&str; 12] = [":-", "->", "(", ")", "{", "}", ",", ".", "=", "^", "/", ":"];
+const SIGNS: [&str; 14] = [":-", "->", "(", ")", "{", "}", "[", "]", ",", ".", "=", "^", "/", ":"];
 
-/// The tokens with their positions. `%` begins a comment up to the line's end.
+/// The tokens with their positions, repetitions written out. `%` begins a comment up
+/// to the line's end.
 pub fn tokens(text: &str) -> Result<Vec<(Token, Position)>, TextError> {
+    repeated(&plain_tokens(text)?)
+}
+
+fn plain_tokens(text: &str) -> Result<Vec<(Token, Position)>, TextError> {
     let mut found = Vec::new();
     let mut line = 1;
     for content in text.lines() {
@@ -52,7 +58,7 @@ fn tokens_of_line(
         if first.is_whitespace() {
             rest = &rest[first.len_utf8()..];
         } else if is_word(first) {
-            let length = rest.find(|c| !is_word(c)).unwrap_or(rest.len());
+            let length = word_length(rest);
             found.push((Token::Word(rest[..length].to_string()), position));
             rest = &rest[length..];
         } else if let Some(sign) = SIGNS.iter().find(|sign| rest.starts_with(**sign)) {
@@ -67,5 +73,18 @@ fn tokens_of_line(
 }
 
 fn is_word(c: char) -> bool {
-    c.is_ascii_alphanumeric() || c == '_'
+    c.is_ascii_alphanumeric() || c == '_' || c == '#'
+}
+
+/// How far a word goes: `#+1` and `#-1` belong to it.
+fn word_length(text: &str) -> usize {
+    let mut length = 0;
+    loop {
+        let rest = &text[length..];
+        length += match rest.as_bytes() {
+            [b'#', b'+' | b'-', digit, ..] if digit.is_ascii_digit() => 2,
+            [first, ..] if is_word(char::from(*first)) => 1,
+            _ => return length,
+        };
+    }
 }

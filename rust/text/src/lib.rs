@@ -7,7 +7,9 @@ pub mod fields;
 pub mod lexer;
 pub mod packing;
 pub mod printing;
+pub mod repeat;
 pub mod symbols;
+pub mod vectors;
 
 pub use packing::{pack_book_text, pack_certificate_text};
 pub use printing::{print_book, print_certificate};

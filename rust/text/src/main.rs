@@ -1,6 +1,8 @@
 //! The command-line tool over files or standard input.
 
+use std::collections::BTreeSet;
 use std::io::{Read, Write};
+use text::vectors::{expected_output, pack_vectors, parse_vectors, Vector};
 use text::{names_in, pack_book_text, pack_certificate_text, print_book, print_certificate};
 use text::{Symbols, TextError};
 
@@ -8,8 +10,10 @@ const HELP: &str = "gearcinder-text pack-book [TEXT]
 gearcinder-text pack-certificate BOOK [TEXT]
 gearcinder-text print-book [--names TEXT] [BOOK]
 gearcinder-text print-certificate [--names TEXT] BOOK [CERTIFICATE]
+gearcinder-text pack-vectors VECTORS OUTPUT TEXT...
+gearcinder-text input-of NAME TEXT...
 BOOK and CERTIFICATE are packed files; a hyphen or nothing is standard input.
-The result goes to standard output.";
+The result goes to standard output, but for pack-vectors, which writes two files.";
 
 fn main() {
     let arguments: Vec<String> = std::env::args().skip(1).collect();
@@ -59,8 +63,38 @@ fn run(words: &[&str]) -> Result<Vec<u8>, Failure> {
         ["print-certificate", book, rest @ ..] if rest.len() <= 1 => {
             printed_certificate(None, book, rest.first())
         }
+        ["pack-vectors", packed, output, files @ ..] => {
+            let vectors = vectors_of(files)?;
+            written(packed, &pack_vectors(&vectors))?;
+            written(output, expected_output(&vectors).as_bytes())?;
+            Ok(Vec::new())
+        }
+        ["input-of", name, files @ ..] => {
+            let vectors = vectors_of(files)?;
+            let found = vectors.iter().find(|vector| vector.name == *name);
+            let input = found.and_then(Vector::framed);
+            input.ok_or(Failure::File(format!("no judgement is called {name}")))
+        }
         _ => Err(Failure::Usage),
     }
+}
+
+/// All vectors of these files, in order; no two have one name.
+fn vectors_of(files: &[&str]) -> Result<Vec<Vector>, Failure> {
+    let mut vectors: Vec<Vector> = Vec::new();
+    for file in files {
+        let found = parse_vectors(&text_of(Some(file))?);
+        vectors.extend(found.map_err(|error| Failure::File(format!("{file}:{error}")))?);
+    }
+    let mut names = BTreeSet::new();
+    match vectors.iter().find(|vector| !names.insert(vector.name.as_str())) {
+        None => Ok(vectors),
+        Some(again) => Err(Failure::File(format!("two vectors are called {}", again.name))),
+    }
+}
+
+fn written(path: &str, bytes: &[u8]) -> Result<(), Failure> {
+    std::fs::write(path, bytes).map_err(|error| Failure::File(format!("{path}: {error}")))
 }
 
 fn printed_book(names: Option<&&str>, book: Option<&&str>) -> Result<Vec<u8>, Failure> {

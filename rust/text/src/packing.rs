@@ -2,9 +2,11 @@
 
 use crate::fields::Reader;
 use crate::lexer::Position;
+use crate::symbols::Symbols;
 use crate::TextError;
 use second::answer::{BOOK, CERTIFICATE};
 use second::files::{BOOK_BYTES, CERTIFICATE_BYTES};
+use second::spell::values;
 use second::{write_book, write_certificate, Answer};
 
 type Read<T> = Result<T, TextError>;
@@ -13,7 +15,7 @@ type Read<T> = Result<T, TextError>;
 pub fn pack_book_text(text: &str) -> Read<Vec<u8>> {
     let reader = book_fields(text)?;
     let mut out = vec![0; BOOK_BYTES];
-    let answer = write_book(&reader.fields, &mut out);
+    let answer = write_book(&values(&reader.fields), &mut out);
     packed(answer, out, BOOK, &reader.positions)
 }
 
@@ -21,7 +23,7 @@ pub fn pack_book_text(text: &str) -> Read<Vec<u8>> {
 pub fn pack_certificate_text(book: &[u8], text: &str) -> Read<Vec<u8>> {
     let reader = certificate_fields(text)?;
     let mut out = vec![0; CERTIFICATE_BYTES];
-    let answer = write_certificate(book, &reader.fields, &mut out);
+    let answer = write_certificate(book, &values(&reader.fields), &mut out);
     packed(answer, out, CERTIFICATE, &reader.positions)
 }
 
@@ -43,14 +45,14 @@ fn packed(answer: Answer, mut out: Vec<u8>, w: u8, positions: &[Position]) -> Re
 /// The field list of a book's text.
 pub fn book_fields(text: &str) -> Read<Reader> {
     let mut reader = Reader::new(text)?;
-    let place = reader.open_count();
+    let place = reader.open_count(8);
     reader.symbols = reader.symbol_table()?;
     reader.close_count(place, reader.symbols.len())?;
     let arities: Vec<u16> = reader.symbols.entries().map(|(_, arity)| arity).collect();
     for (number, arity) in arities.into_iter().enumerate() {
-        reader.put(arity, reader.arity_positions[number]);
+        reader.put(arity, 4, reader.arity_positions[number]);
     }
-    let place = reader.open_count();
+    let place = reader.open_count(8);
     let mut rules = 0;
     while !reader.at_end() {
         rule(&mut reader)?;
@@ -62,7 +64,7 @@ pub fn book_fields(text: &str) -> Read<Reader> {
 
 /// `head.` or `head :- call, ... .`
 fn rule(reader: &mut Reader) -> Read<()> {
-    let place = reader.open_count();
+    let place = reader.open_count(4);
     reader.term()?;
     let mut calls = 0;
     if reader.sign_follows(":-") {
@@ -81,7 +83,21 @@ fn rule(reader: &mut Reader) -> Read<()> {
 pub fn certificate_fields(text: &str) -> Read<Reader> {
     let mut reader = Reader::new(text)?;
     reader.symbols = reader.symbol_table()?;
-    let place = reader.open_count();
+    lines_and_closing(reader)
+}
+
+/// The same, of a text that may leave its symbol table out and mean this one.
+pub fn certificate_fields_over(text: &str, symbols: &Symbols) -> Read<Reader> {
+    let mut reader = Reader::new(text)?;
+    reader.symbols = match reader.is_word("symbols") {
+        true => reader.symbol_table()?,
+        false => symbols.clone(),
+    };
+    lines_and_closing(reader)
+}
+
+fn lines_and_closing(mut reader: Reader) -> Read<Reader> {
+    let place = reader.open_count(8);
     let mut lines = 0;
     while reader.is_word("line") {
         line(&mut reader, lines)?;
@@ -107,7 +123,7 @@ fn line(reader: &mut Reader, number: usize) -> Read<()> {
     if !descent {
         reader.expect_word("unfold")?;
     }
-    reader.put(u16::from(descent), position);
+    reader.put(u16::from(descent), 1, position);
     reader.term()?;
     right(reader)?;
     reader.expect_word("by")?;
@@ -122,7 +138,7 @@ fn right(reader: &mut Reader) -> Read<()> {
     reader.expect_sign("->")?;
     let position = reader.position();
     let empty = reader.word_follows("empty");
-    reader.put(u16::from(!empty), position);
+    reader.put(u16::from(!empty), 1, position);
     match empty {
         true => Ok(()),
         false => reader.term(),
@@ -134,7 +150,7 @@ fn descent_reason(reader: &mut Reader) -> Read<()> {
     reader.expect_word("base")?;
     one_use(reader)?;
     reader.expect_word("rule")?;
-    reader.number_field()?;
+    reader.number_field(8)?;
     reader.filling()
 }
 
@@ -142,9 +158,9 @@ fn descent_reason(reader: &mut Reader) -> Read<()> {
 /// end, `through LINE (i,j) {...}`
 fn unfold_reason(reader: &mut Reader) -> Read<()> {
     reader.expect_word("rule")?;
-    reader.number_field()?;
+    reader.number_field(8)?;
     reader.expect_word("stop")?;
-    let stop = reader.number_field()?;
+    let stop = reader.number_field(4)?;
     reader.filling()?;
     if stop == 0 {
         return Ok(());
@@ -157,23 +173,23 @@ fn unfold_reason(reader: &mut Reader) -> Read<()> {
     }
     let position = reader.position();
     if reader.word_follows("here") {
-        reader.put(0, position);
+        reader.put(0, 1, position);
         return Ok(());
     }
     if !reader.word_follows("through") {
         return reader.wrong("`here` or `through` expected after the uses");
     }
-    reader.put(1, position);
+    reader.put(1, 1, position);
     one_use(reader)
 }
 
 /// `LINE (i,j) {...}`
 fn one_use(reader: &mut Reader) -> Read<()> {
-    reader.number_field()?;
+    reader.number_field(8)?;
     reader.expect_sign("(")?;
-    reader.number_field()?;
+    reader.number_field(12)?;
     reader.expect_sign(",")?;
-    reader.number_field()?;
+    reader.number_field(12)?;
     reader.expect_sign(")")?;
     reader.filling()
 }
@@ -181,9 +197,9 @@ fn one_use(reader: &mut Reader) -> Read<()> {
 /// `closing line L k K alpha A {...}`
 fn closing(reader: &mut Reader) -> Read<()> {
     reader.expect_word("closing")?;
-    for word in ["line", "k", "alpha"] {
+    for (word, width) in [("line", 8), ("k", 12), ("alpha", 12)] {
         reader.expect_word(word)?;
-        reader.number_field()?;
+        reader.number_field(width)?;
     }
     reader.filling()
 }

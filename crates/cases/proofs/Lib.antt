@@ -1,0 +1,2 @@
+-- Parts of lent memory.
+pub mod Parts

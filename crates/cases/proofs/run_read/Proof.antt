@@ -1,0 +1,43 @@
+-- `cases::run_read` is safe: the memory is as long as any vector asks for.
+use native.Mathlib.Omega.{arith}
+use Rattle.io.proofs.Counting.{front}
+use borrow.Author.Needs.{needs}
+use Rattle.cases.proofs.run_read.Statement.{statement}
+use Rattle.cases.proofs.run_read.Tie as tie
+
+places-requires : tie.Need-places-requires
+places-requires c κs = search needs
+
+array-borrow-prefix-space : tie.Need-array-borrow-prefix-space
+array-borrow-prefix-space c = search needs
+
+slice-aggregate-out : tie.Need-slice-aggregate-out
+slice-aggregate-out c = front _ _ (omega arith)
+
+read-files-requires : tie.Need-read-files-requires
+read-files-requires c κs = search needs
+
+print-answer-requires : tie.Need-print-answer-requires
+print-answer-requires c κs = search needs
+
+sum-of-fields-requires : tie.Need-sum-of-fields-requires
+sum-of-fields-requires c κs = search needs
+
+print-left-requires : tie.Need-print-left-requires
+print-left-requires c κs = search needs
+
+returns : tie.Need-returns
+returns c = search needs
+
+pub run-read-spec : {M : Type 1} → statement M
+run-read-spec =
+    tie.close
+    (tie.spec
+    places-requires
+    array-borrow-prefix-space
+    slice-aggregate-out
+    read-files-requires
+    print-answer-requires
+    sum-of-fields-requires
+    print-left-requires
+    returns)

@@ -1,0 +1,9 @@
+-- The laws behind the contracts of this crate.
+pub mod Taking
+pub mod Passing
+pub mod Noting
+pub mod Frames
+pub mod Subjects
+pub mod Meanings
+pub mod Using
+pub mod Finding

@@ -1,0 +1,268 @@
+// Both files looked up through the work table: where rules and lines lie, uses, and two sides compared at a part.
+use bits::Cursor;
+use bits::Field;
+use instances::Side;
+ghost use mathlib.Core.Path.{_≡_};
+ghost use Prim.Native.Nat.{_+_, _≤_, _<_};
+ghost use lib.ListN.{length, getD};
+ghost use Rattle.instances.specs.Instances.{Builds};
+ghost use Rattle.checking.specs.Placed.{Takes, Passes, PassesRule, PassesRight, Notes, Indexes};
+ghost use Rattle.checking.specs.Known.{ReadsUse};
+ghost use Rattle.checking.specs.Subjects.{Sided, Compares, PlainRight, UsedRight};
+ghost use Rattle.checking.specs.Found.{number-at, Checks};
+
+// A field, and the bit behind it.
+pub struct Read {
+    pub value: u16,
+    pub at: usize,
+}
+
+// A use that was read: where both sides of its claim lie, its index pair, and the bit behind it.
+pub struct Instance {
+    pub left: usize,
+    pub right: usize,
+    pub i: u16,
+    pub j: u16,
+    pub end: usize,
+}
+
+// What is built for a comparison: the empty mark; a head or call of a rule at a bit of the book; a term at a bit of the
+// certificate reindexed; or one reindexed and filled by a use's filling.
+pub enum Subject {
+    Empty,
+    Call(usize),
+    Plain(usize, u16, u16),
+    Used(usize, u16, u16),
+}
+
+// What a comparison comes to: equal, with the bit behind the first side's term; not equal; or a side has more than 1,024 nodes.
+pub enum Compared {
+    Equal(usize),
+    Unequal,
+    TooBig,
+}
+
+// What some checks come to: the number and the part of the first that is not met; or all are met, and a bit where the next begin.
+pub enum Found {
+    Fault(u16, usize),
+    Good(usize),
+}
+
+// Where a check stands.
+pub enum Kind {
+    Unfold,
+    Descent,
+    Closing,
+}
+
+// The field of w bits at a bit.
+pub fn field(s: &[u8], w: usize, at: usize) -> Read
+    requires { ⌜ w ≤ 16 ⌝ }
+    ensures { λ r. ⌜ Takes (now (s .entry)) w at r ⌝ }
+{
+    let c = Cursor { at };
+    match c.take(w, s) {
+        Field::Past => Read { value: 0, at: 0 },
+        Field::Got(v, d) => Read { value: v, at: d.at },
+    }
+}
+
+// Where the n terms at a bit end.
+fn pass_terms(book: &[u8], s: &[u8], at: usize, n: usize) -> usize
+    ensures { λ r. ⌜ Passes (now (book .entry)) (now (s .entry)) at n r ⌝ }
+{
+    if n == 0 {
+        return at;
+    }
+    let next = instances::skip(book, s, at);
+    pass_terms(book, s, next, n - 1)
+}
+
+// Where the rule at a bit ends.
+fn pass_rule(book: &[u8], at: usize) -> usize
+    ensures { λ r. ⌜ PassesRule (now (book .entry)) at r ⌝ }
+{
+    let calls = field(book, 4, at);
+    let n = calls.value as usize;
+    pass_terms(book, book, calls.at, n + 1)
+}
+
+// The begins of the n rules at a bit, noted from word k on.
+fn note_rules(book: &[u8], w: &mut [u64], at: usize, k: usize, n: usize)
+    requires { ⌜ (k + n ≤ 256) × (8192 ≤ length (now w)) ⌝ }
+    ensures { λ _. ⌜ Notes (now (book .entry)) at k n (now (w .entry)) (now (w .exit)) ⌝ }
+{
+    if n == 0 {
+        return;
+    }
+    w[k] = at as u64;
+    let next = pass_rule(book, at);
+    note_rules(book, w, next, k + 1, n - 1);
+}
+
+// The begins of the book's rules, noted from word 0 on.
+pub fn index_rules(book: &[u8], w: &mut [u64])
+    requires { ⌜ 8192 ≤ length (now w) ⌝ }
+    ensures { λ _. ⌜ Indexes (now (book .entry)) (now (w .entry)) (now (w .exit)) ⌝ }
+{
+    let symbols = field(book, 8, 0);
+    let n = symbols.value as usize;
+    let rules = field(book, 8, 8 + 4 * n);
+    let m = rules.value as usize;
+    note_rules(book, w, rules.at, 0, m);
+}
+
+// Where what stands right of the arrow ends.
+pub fn pass_right(book: &[u8], certificate: &[u8], at: usize) -> usize
+    ensures { λ r. ⌜ PassesRight (now (book .entry)) (now (certificate .entry)) at r ⌝ }
+{
+    let any = field(certificate, 1, at);
+    let end = any.at;
+    if any.value == 0 {
+        return end;
+    }
+    instances::skip(book, certificate, end)
+}
+
+// The right at a bit, reindexed.
+pub fn plain_right(certificate: &[u8], at: usize, i: u16, j: u16) -> Subject
+    ensures { λ r. ⌜ PlainRight (now (certificate .entry)) at i j r ⌝ }
+{
+    let any = field(certificate, 1, at);
+    let term = any.at;
+    if any.value == 0 {
+        return Subject::Empty;
+    }
+    Subject::Plain(term, i, j)
+}
+
+// The right at a bit, reindexed and filled by a use's filling.
+pub fn used_right(certificate: &[u8], at: usize, i: u16, j: u16) -> Subject
+    ensures { λ r. ⌜ UsedRight (now (certificate .entry)) at i j r ⌝ }
+{
+    let any = field(certificate, 1, at);
+    let term = any.at;
+    if any.value == 0 {
+        return Subject::Empty;
+    }
+    Subject::Used(term, i, j)
+}
+
+// A bit offset that was noted.
+pub fn noted(w: &[u64], k: usize) -> usize
+    requires { ⌜ (k < 768) × (8192 ≤ length (now w)) ⌝ }
+    ensures { λ r. ⌜ r ≡ getD (now (w .entry)) k 0 ⌝ }
+{
+    w[k] as usize
+}
+
+// The use at a bit; its filling is indexed.
+pub fn read_use(book: &[u8], certificate: &[u8], w: &mut [u64], at: usize) -> Instance
+    requires { ⌜ 8192 ≤ length (now w) ⌝ }
+    ensures { λ r. ⌜ ReadsUse (now (book .entry)) (now (certificate .entry)) at (now (w .entry)) (now (w .exit)) r ⌝ }
+{
+    let line = field(certificate, 8, at);
+    let k = line.value as usize;
+    let i = field(certificate, 12, line.at);
+    let j = field(certificate, 12, i.at);
+    let left = noted(w, 256 + k);
+    let right = noted(w, 512 + k);
+    let end = fillings::list_filling(book, certificate, w, 896, j.at);
+    Instance {
+        left,
+        right,
+        i: i.value,
+        j: j.value,
+        end,
+    }
+}
+
+// One side of a comparison.
+fn one_side(book: &[u8], certificate: &[u8], w: &mut [u64], base: usize, a: Subject) -> Side
+    requires { ⌜ (1024 ≤ base) × (base + 3072 ≤ length (now w)) ⌝ }
+    ensures { λ r. ⌜ Sided (now (book .entry)) (now (certificate .entry)) base a (now (w .entry)) (now (w .exit)) r ⌝ }
+{
+    match a {
+        Subject::Empty => Side::Done(0, 0),
+        Subject::Call(at) => instances::build(book, book, certificate, w, base, at, 1, 0, 832),
+        Subject::Plain(at, i, j) => instances::build(
+            book,
+            certificate,
+            certificate,
+            w,
+            base,
+            at,
+            i,
+            j,
+            768,
+        ),
+        Subject::Used(at, i, j) => instances::build(
+            book,
+            certificate,
+            certificate,
+            w,
+            base,
+            at,
+            i,
+            j,
+            896,
+        ),
+    }
+}
+
+// Builds the first side, then the second, and compares them.
+fn compare(book: &[u8], certificate: &[u8], w: &mut [u64], a: Subject, b: Subject) -> Compared
+    requires { ⌜ 8192 ≤ length (now w) ⌝ }
+    ensures { λ r. ⌜ Compares (now (book .entry)) (now (certificate .entry)) a b (now (w .entry)) (now (w .exit)) r ⌝ }
+{
+    let Side::Done(n, end) = one_side(book, certificate, w, 1024, a) else {
+        return Compared::TooBig;
+    };
+    let Side::Done(m, _) = one_side(book, certificate, w, 4096, b) else {
+        return Compared::TooBig;
+    };
+    if table::same(w, 1024, n, 4096, m) {
+        return Compared::Equal(end);
+    }
+    Compared::Unequal
+}
+
+// The number of a comparison that fails.
+fn number(kind: Kind, part: usize) -> u16
+    ensures { λ r. ⌜ r ≡ number-at kind part ⌝ }
+{
+    match kind {
+        Kind::Unfold => match part {
+            0 => 9,
+            15 => 12,
+            _ => 10,
+        },
+        Kind::Descent => match part {
+            0 => 9,
+            1 => 12,
+            2 => 9,
+            _ => 10,
+        },
+        Kind::Closing => 15,
+    }
+}
+
+// The comparison at a part.
+pub fn check(
+    book: &[u8],
+    certificate: &[u8],
+    w: &mut [u64],
+    kind: Kind,
+    part: usize,
+    a: Subject,
+    b: Subject,
+) -> Found
+    requires { ⌜ 8192 ≤ length (now w) ⌝ }
+    ensures { λ r. ⌜ Checks (now (book .entry)) (now (certificate .entry)) kind part a b (now (w .entry)) (now (w .exit)) r ⌝ }
+{
+    match compare(book, certificate, w, a, b) {
+        Compared::TooBig => Found::Fault(16, part),
+        Compared::Unequal => Found::Fault(number(kind, part), part),
+        Compared::Equal(end) => Found::Good(end),
+    }
+}

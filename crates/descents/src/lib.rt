@@ -1,0 +1,171 @@
+// The checks of a descent.
+use checking::Found;
+use checking::Instance;
+use checking::Kind;
+use checking::Subject;
+ghost use Prim.Native.Nat.{_≤_};
+ghost use lib.ListN.{length};
+ghost use Rattle.unfolds.specs.Unfoldings.{Parts};
+ghost use Rattle.descents.specs.Descents.{DescentBase, DescentHead, DescentCall, LevelRight, DescentBy, DescentOn, DescentAt};
+
+// Parts 0 and 1 of a descent: its base, by a use that was read.
+fn descent_base(
+    book: &[u8],
+    certificate: &[u8],
+    w: &mut [u64],
+    left: usize,
+    right: usize,
+    base: Instance,
+) -> Found
+    requires { ⌜ 8192 ≤ length (now w) ⌝ }
+    ensures { λ r. ⌜ DescentBase (now (book .entry)) (now (certificate .entry)) left right base (now (w .entry)) (now (w .exit)) r ⌝ }
+{
+    let theirs = Subject::Used(base.left, base.i, base.j);
+    let their_right = checking::used_right(certificate, base.right, base.i, base.j);
+    let own_right = checking::plain_right(certificate, right, 0, 0);
+    match checking::check(
+        book,
+        certificate,
+        w,
+        Kind::Descent,
+        0,
+        theirs,
+        Subject::Plain(left, 0, 0),
+    ) {
+        Found::Fault(n, p) => Found::Fault(n, p),
+        Found::Good(_) => checking::check(
+            book,
+            certificate,
+            w,
+            Kind::Descent,
+            1,
+            their_right,
+            own_right,
+        ),
+    }
+}
+
+// Parts 0 to 2: then the head of the rule, which lies at a bit.
+fn descent_head(
+    book: &[u8],
+    certificate: &[u8],
+    w: &mut [u64],
+    left: usize,
+    right: usize,
+    base: Instance,
+    head: usize,
+) -> Found
+    requires { ⌜ 8192 ≤ length (now w) ⌝ }
+    ensures { λ r. ⌜ DescentHead (now (book .entry)) (now (certificate .entry)) left right base head (now (w .entry)) (now (w .exit)) r ⌝ }
+{
+    match descent_base(book, certificate, w, left, right, base) {
+        Found::Fault(n, p) => Found::Fault(n, p),
+        Found::Good(_) => checking::check(
+            book,
+            certificate,
+            w,
+            Kind::Descent,
+            2,
+            Subject::Call(head),
+            Subject::Plain(left, 1, 1),
+        ),
+    }
+}
+
+// Parts 0 to 3: then its call.
+fn descent_call(
+    book: &[u8],
+    certificate: &[u8],
+    w: &mut [u64],
+    left: usize,
+    right: usize,
+    base: Instance,
+    head: usize,
+) -> Found
+    requires { ⌜ 8192 ≤ length (now w) ⌝ }
+    ensures { λ r. ⌜ DescentCall (now (book .entry)) (now (certificate .entry)) left right base head (now (w .entry)) (now (w .exit)) r ⌝ }
+{
+    match descent_head(book, certificate, w, left, right, base, head) {
+        Found::Fault(n, p) => Found::Fault(n, p),
+        Found::Good(call) => checking::check(
+            book,
+            certificate,
+            w,
+            Kind::Descent,
+            3,
+            Subject::Call(call),
+            Subject::Plain(left, 1, 0),
+        ),
+    }
+}
+
+// Part 4 of a descent.
+fn level_right(book: &[u8], certificate: &[u8], right: usize, at: usize) -> Found
+    ensures { λ r. ⌜ LevelRight (now (book .entry)) (now (certificate .entry)) right at r ⌝ }
+{
+    let any = checking::field(certificate, 1, right);
+    let term = any.at;
+    if any.value == 0 {
+        return Found::Good(at);
+    }
+    if instances::level(book, certificate, term) {
+        return Found::Good(at);
+    }
+    Found::Fault(13, 4)
+}
+
+// All parts of a descent, which ends at a bit, by a rule at a bit of the book.
+fn descent_by(
+    book: &[u8],
+    certificate: &[u8],
+    w: &mut [u64],
+    left: usize,
+    right: usize,
+    base: Instance,
+    rule: usize,
+    at: usize,
+) -> Found
+    requires { ⌜ 8192 ≤ length (now w) ⌝ }
+    ensures { λ r. ⌜ DescentBy (now (book .entry)) (now (certificate .entry)) left right base rule at (now (w .entry)) (now (w .exit)) r ⌝ }
+{
+    let calls = checking::field(book, 4, rule);
+    match descent_call(book, certificate, w, left, right, base, calls.at) {
+        Found::Fault(n, p) => Found::Fault(n, p),
+        Found::Good(_) => level_right(book, certificate, right, at),
+    }
+}
+
+// The rule and the filling of a descent behind its base.
+fn descent_on(
+    book: &[u8],
+    certificate: &[u8],
+    w: &mut [u64],
+    left: usize,
+    right: usize,
+    base: Instance,
+) -> Found
+    requires { ⌜ 8192 ≤ length (now w) ⌝ }
+    ensures { λ r. ⌜ DescentOn (now (book .entry)) (now (certificate .entry)) left right base (now (w .entry)) (now (w .exit)) r ⌝ }
+{
+    let rule = checking::field(certificate, 8, base.end);
+    let k = rule.value as usize;
+    let begin = checking::noted(w, k);
+    let end = fillings::list_filling(book, certificate, w, 832, rule.at);
+    descent_by(book, certificate, w, left, right, base, begin, end)
+}
+
+// A descent, behind its claim.
+pub fn descent(
+    book: &[u8],
+    certificate: &[u8],
+    w: &mut [u64],
+    left: usize,
+    right: usize,
+    at: usize,
+) -> Found
+    requires { ⌜ 8192 ≤ length (now w) ⌝ }
+    ensures { λ r. ⌜ DescentAt (now (book .entry)) (now (certificate .entry)) left right at (now (w .entry)) (now (w .exit)) r ⌝ }
+{
+    let base = checking::read_use(book, certificate, w, at);
+    descent_on(book, certificate, w, left, right, base)
+}

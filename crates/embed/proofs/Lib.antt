@@ -1,0 +1,3 @@
+-- The laws of the answers as numbers.
+pub mod Telling
+pub mod OneAnswer

@@ -1,0 +1,2 @@
+-- The answers of the judge, of reading and of writing as numbers.
+pub mod Numbers

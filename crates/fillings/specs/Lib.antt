@@ -1,0 +1,3 @@
+-- What indexing a filling does to the work table.
+pub mod Listings
+pub mod Noting

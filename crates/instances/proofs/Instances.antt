@@ -1,0 +1,148 @@
+-- What the walk over a pattern pushes, reindexed and filled, is the normal form of the instance.
+use Prim.Native.Nat.{ℕ, _+_, _-_, _≤_, _<_, _^_}
+use mathlib.Core.Path.{_≡_, refl, sym, ap, ap₂, _∙_}
+use mathlib.Core.List.{List, [], _∷_, _++_, flatMap, append-nil}
+use mathlib.Core.Option.{some}
+use native.Mathlib.Decide.{decLt}
+use native.Mathlib.Omega.{arith}
+use lib.ListN.{length}
+use borrow.Author.Tests.{eq-eqb, ne-eqb, lt-ltb, le-ltb}
+use Rattle.patterns.specs.Term.{Filling, fill, Node, nvar, nfun, npow, nodes}
+use Rattle.patterns.specs.Edition.{reindex}
+use Rattle.patterns.specs.First.{Exp, Pattern, shift, one}
+use Rattle.patterns.specs.Push.{retag, expand}
+use Rattle.table.specs.Nodes.{stack, load}
+use Rattle.table.specs.Sides.{Room, Kept, Holds, Took}
+use Rattle.table.specs.Marks.{Built}
+use Rattle.table.specs.declared.Pushed.{Pushed}
+use Rattle.table.specs.declared.Pushed.the-variants.{Count, NoRoom}
+use Rattle.table.proofs.Marks.{built-instance}
+use Rattle.instances.specs.Lying.{TermAt}
+use Rattle.instances.specs.Fillings.{entry, Entry, unlisted, listed, Fills}
+use Rattle.instances.specs.Instances.{Stored, Few, Builds}
+use Rattle.instances.specs.Walks.{single, Walk, walked}
+use Rattle.instances.specs.Filled.{wordOf, filled}
+use Rattle.instances.specs.declared.Header.{Header}
+use Rattle.instances.specs.declared.Header.the-variants.{Variable, Symbol, Power, Missing}
+use Rattle.instances.specs.declared.Place.{Place}
+use Rattle.instances.specs.declared.Side.the-variants.{Done, Full}
+use Rattle.instances.proofs.Walks.{walked-term}
+use Rattle.instances.proofs.Goings.{going-done, going-out}
+use Rattle.instances.proofs.Loads.{filled-light}
+use Rattle.instances.proofs.Pushings.{took-as, Pushing, pushing-done, pushing-out, pushing-room, pushing-light}
+
+-- ---- one node of an instance
+
+module _ (book cert w : List ℕ) (fills i j : ℕ) where
+  reindexed-only : (h : Header) → wordOf w fills h ≡ 0 → retag (shift (i, j)) (single h) ≡ flatMap (filled book cert w fills i j) (single h)
+  unfolding retag single flatMap filled wordOf
+  reindexed-only (Variable x c) e = rw (eq-eqb (entry w fills x) 0 e)
+  reindexed-only (Symbol f n c) e = refl
+  reindexed-only (Power s a b c) e = refl
+  reindexed-only Missing e = refl
+
+  term-only : (h : Header) → ¬ (wordOf w fills h ≡ 0) → walked book cert (wordOf w fills h - 1) .met ≡ flatMap (filled book cert w fills i j) (single h)
+  unfolding single flatMap filled wordOf
+  term-only (Variable x c) e = rw (ne-eqb (entry w fills x) 0 e, append-nil)
+  term-only (Symbol f n c) e = absurd (e refl)
+  term-only (Power s a b c) e = absurd (e refl)
+  term-only Missing e = absurd (e refl)
+
+  module _ (base n : ℕ) (v : List ℕ) (r : Pushed) (h : Header) (word : ℕ) (e : word ≡ wordOf w fills h) where
+    abbrev Wanted : Type 0
+    Wanted = Took base n (flatMap (filled book cert w fills i j) (single h)) w v r
+
+    pub step-unlisted : word ≡ 0 → Took base n (retag (shift (i, j)) (single h)) w v r → Wanted
+    step-unlisted z t = took-as n (reindexed-only h (sym e ∙ z)) t
+
+    pub step-listed : ¬ (word ≡ 0) → Took base n (walked book cert (word - 1) .met) w v r → Wanted
+    step-listed z t = took-as n (ap (λ k. walked book cert (k - 1) .met) e ∙ term-only h (λ q. z (e ∙ q))) t
+
+-- the table of a filling that lies below a side is not changed by what is pushed there
+entry-kept : (w v : List ℕ) (fills base x : ℕ) → fills + 64 ≤ base → Kept base 3072 w v → entry v fills x ≡ entry w fills x
+unfolding entry
+entry-kept w v fills base x h k = go (decLt x 64)
+  where
+    go : Dec (x < 64) → entry v fills x ≡ entry w fills x
+    go (yes l) = rw (lt-ltb x 64 l) (k .low (fills + x) (omega arith))
+    go (no l) = rw (le-ltb x 64 (omega arith))
+
+filled-kept : (book cert w v : List ℕ) (fills base i j : ℕ) (h : Header) → fills + 64 ≤ base → Kept base 3072 w v
+    → flatMap (filled book cert v fills i j) (single h) ≡ flatMap (filled book cert w fills i j) (single h)
+unfolding single flatMap filled
+filled-kept book cert w v fills base i j (Variable x c) h k = rw (entry-kept w v fills base x h k)
+filled-kept book cert w v fills base i j (Symbol f n c) h k = refl
+filled-kept book cert w v fills base i j (Power s a b c) h k = refl
+filled-kept book cert w v fills base i j Missing h k = refl
+
+pub step-filled : {base : ℕ} {w v : List ℕ} {r : Pushed} (book cert w₀ : List ℕ) (fills i j n : ℕ) (h : Header) → fills + 64 ≤ base → Kept base 3072 w₀ w
+    → Took base n (flatMap (filled book cert w fills i j) (single h)) w v r
+    → Took base n (flatMap (filled book cert w₀ fills i j) (single h)) w v r
+step-filled {base} {w} {v} {r} book cert w₀ fills i j n h below k t = took-as n (filled-kept book cert w₀ w fills base i j h below k) t
+
+-- ---- the whole instance
+
+-- an empty side holds nothing
+no-load : (w : List ℕ) (base : ℕ) → load (stack w base 0) ≤ 0
+unfolding stack load
+no-load w base = omega arith
+
+module _ (book cert w : List ℕ) (fills i j : ℕ) where
+  module _ (θ : Filling Exp) (F : Fills book cert w fills θ) where
+    at-variable : (x : ℕ) → filled book cert w fills i j (nvar x) ≡ nodes (θ x)
+    unfolding filled nodes
+    at-variable x = go (θ x) (F .each x)
+      where
+        go : (t : Pattern) → Entry book cert x (entry w fills x) t → filled book cert w fills i j (nvar x) ≡ nodes t
+        go _ (unlisted e) = rw (eq-eqb (entry w fills x) 0 e)
+        go t (listed at e h) =
+            let down : entry w fills x - 1 ≡ at = omega arith in
+            rw (ne-eqb (entry w fills x) 0 (λ z. omega arith), down) (ap (λ (v : Walk). v .met) (walked-term book cert at t h))
+
+    instance-nodes : (ns : List (Node Exp)) → flatMap (filled book cert w fills i j) ns ≡ expand θ (retag (shift (i, j)) ns)
+    unfolding flatMap retag expand filled
+    instance-nodes [] = refl
+    instance-nodes (nvar x ∷ ns) = ap₂ _++_ (at-variable x) (instance-nodes ns)
+    instance-nodes (nfun f ∷ ns) = ap (λ l. nfun f ∷ l) (instance-nodes ns)
+    instance-nodes (npow s e ∷ ns) = ap (λ l. npow s (shift (i, j) e) ∷ l) (instance-nodes ns)
+
+  module _ (s : List ℕ) (at base : ℕ) (v : List ℕ) where
+    abbrev whole : List (Node Exp)
+    whole = flatMap (filled book cert w fills i j) (walked book s at .met)
+
+    -- the side has the normal form
+    instance-built : (r : Pushed) → Took base 0 whole w v r → (t : Pattern) (θ : Filling Exp) → TermAt book s at t → Fills book cert w fills θ
+        → Built base (some (fill θ (reindex one (i, j) t))) v r
+    unfolding reindex
+    instance-built r p t θ h F =
+        built-instance base w v r (shift (i, j)) θ t
+        (took-as 0 (ap (λ (u : Walk). flatMap (filled book cert w fills i j) (u .met)) (walked-term book s at t h) ∙ instance-nodes θ F (nodes t)) p)
+
+    finished : (n e : ℕ) (ns : List (Node Exp)) → walked book s at ≡ record { met = ns; end = e } → Took base 0 whole w v (Count n)
+        → Builds book s cert base at i j fills w v (Done n e)
+    unfolding Stored Few Holds
+    finished n e ns q p = record {
+      told = λ t θ h F. (instance-built (Count n) p t θ h F, ap (λ (u : Walk). u .end) (sym q ∙ walked-term book s at t h));
+      few = p .holds .0;
+      kept = p .kept;
+    }
+
+    module _ (n left : ℕ) (p : Place) (g : Pushing (filled book cert w fills i j) book s at base 0 w v n left p) where
+      pub built-done : p .pending ≡ 0 → Builds book s cert base at i j fills w v (Done n (p .at))
+      built-done h = finished n (p .at) _ (going-done book s at (g .met) left p (g .going) h) (pushing-done _ book s at base 0 w v n left p g h)
+
+      pub built-out : left ≤ 0 → Builds book s cert base at i j fills w v (Done n (p .at))
+      built-out h = finished n (p .at) _ (going-out book s at (g .met) left p (g .going) h) (pushing-out _ book s at base 0 w v n left p g h)
+
+    -- the next node fits
+    pub building-fits : (n left : ℕ) (p : Place) → Pushing (filled book cert w fills i j) book s at base 0 w v n left p
+        → (base + 3072 ≤ length w) × (fills + 64 ≤ base) → i < 65536 → j < 65536
+        → Room base n v × ((load (stack v base n) ≤ 2 ^ 60) × (fills + 64 ≤ length v))
+    building-fits n left p g before small-i small-j =
+        let room = pushing-room _ book s at base 0 w v n left p g (record { within = before .0; few = omega arith }) in
+        let light = pushing-light _ book s at base 0 w v n left p g 0 (2 ^ 38) (no-load w base) (filled-light book cert w fills i j small-i small-j s at) in
+        (room, (omega arith, omega (arith, room .within, before .1)))
+
+    pub built-full : Took base 0 whole w v NoRoom → Builds book s cert base at i j fills w v Full
+    unfolding Stored Few
+    built-full p = record { told = instance-built NoRoom p; few = tt; kept = p .kept }

@@ -1,0 +1,10 @@
+-- The laws of packed terms and of the walks over them, each above the one before.
+pub mod Lying
+pub mod Headers
+pub mod Walks
+pub mod Goings
+pub mod Levels
+pub mod Loads
+pub mod Pushings
+pub mod Instances
+pub mod Terms

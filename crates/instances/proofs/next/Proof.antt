@@ -1,0 +1,63 @@
+-- `instances::next` meets its contract, by the kinds of header.
+use native.Mathlib.Omega.{arith}
+use Rattle.instances.specs.Walks.{onward}
+use borrow.Author.Needs.{needs}
+use Rattle.instances.proofs.next.Statement.{statement}
+use Rattle.instances.proofs.next.Tie as tie
+
+enum-known-header : tie.Need-enum-known-header
+enum-known-header c = search needs
+
+sub-t8 : tie.Need-sub-t8
+sub-t8 c = search needs
+
+enum-known-header-2 : tie.Need-enum-known-header-2
+enum-known-header-2 c = search needs
+
+sub-t9 : tie.Need-sub-t9
+sub-t9 c = search needs
+
+cast-t10 : tie.Need-cast-t10
+cast-t10 c = search needs
+
+add-t11 : tie.Need-add-t11
+add-t11 c = search needs
+
+enum-known-header-3 : tie.Need-enum-known-header-3
+enum-known-header-3 c = search needs
+
+enum-told : tie.Need-enum-told
+enum-told c = search needs
+
+returns : tie.Need-returns
+unfolding onward
+returns c = record { is = simp (c .before .header .given .1); few = omega arith }
+
+returns-2 : tie.Need-returns-2
+unfolding onward
+returns-2 c = record { is = simp (c .before .header2 .given .1); few = omega arith }
+
+returns-3 : tie.Need-returns-3
+unfolding onward
+returns-3 c = record { is = simp (c .before .header3 .given .1); few = omega arith }
+
+returns-4 : tie.Need-returns-4
+unfolding onward
+returns-4 c = record { is = simp (c .enum-told .given .1); few = omega arith }
+
+pub next-spec : {M : Type 1} → statement M
+next-spec =
+    tie.close
+    (tie.spec
+    enum-known-header
+    sub-t8
+    enum-known-header-2
+    sub-t9
+    cast-t10
+    add-t11
+    enum-known-header-3
+    enum-told
+    returns
+    returns-2
+    returns-3
+    returns-4)

@@ -1,0 +1,65 @@
+-- The walk over a packed term, node after node: the nodes that it meets, and the bit where it ends.
+use Prim.Native.Nat.{ℕ, zero, suc, _+_, _-_, _≤_}
+use mathlib.Core.Path.{_≡_}
+use mathlib.Core.List.{List, [], _∷_, _++_}
+use mathlib.Core.Bool.{cond}
+use lib.Dec.{eqb}
+use Rattle.patterns.specs.Term.{Node, nvar, nfun, npow}
+use Rattle.patterns.specs.First.{Exp, Still}
+use Rattle.instances.specs.Headers.{headerAt}
+use Rattle.instances.specs.declared.Header.{Header}
+use Rattle.instances.specs.declared.Header.the-variants.{Variable, Symbol, Power, Missing}
+use Rattle.instances.specs.declared.Place.{Place}
+
+-- the node that a header tells, none where it is missing
+unfoldable pub single : Header → List (Node Exp)
+single (Variable x c) = nvar x ∷ []
+single (Symbol f n c) = nfun f ∷ []
+single (Power s a b c) = npow s (a, b) ∷ []
+single Missing = []
+
+-- 01: "a node is followed at once by its arguments": the place behind a header, with so many terms still to come
+unfoldable pub onward : ℕ → Header → Place
+onward pending (Variable x c) = record { at = c .at; pending = pending - 1 }
+onward pending (Symbol f n c) = record { at = c .at; pending = pending - 1 + n }
+onward pending (Power s a b c) = record { at = c .at; pending = pending }
+onward pending Missing = record { at = 0; pending = 0 }
+
+-- q is that place, and its count of terms has grown by an arity at most
+pub record Next (pending : ℕ) (h : Header) (q : Place) : Type 0 where
+  pub is : q ≡ onward pending h
+  pub few : q .pending ≤ pending + 65536
+
+-- a lone term is to come
+abbrev pub start : ℕ → Place
+start at = record { at = at; pending = 1 }
+
+-- the nodes that a walk meets, and the bit where it ends
+pub record Walk : Type 0 where
+  pub met : List (Node Exp)
+  pub end : ℕ
+
+-- nodes that are met first
+abbrev pub ahead : List (Node Exp) → Walk → Walk
+ahead ns v = record { met = ns ++ v .met; end = v .end }
+
+-- no term is to come
+abbrev pub stopped : Place → Walk
+stopped p = record { met = []; end = p .at }
+
+-- the walk from a place on, over at most `left` nodes
+unfoldable pub walk : List ℕ → List ℕ → ℕ → Place → Walk
+walk book s zero p = stopped p
+walk book s (suc left) p =
+    cond (eqb (p .pending) 0) (stopped p)
+    (ahead (single (headerAt book s (p .at))) (walk book s left (onward (p .pending) (headerAt book s (p .at)))))
+
+-- the walk over the term at a bit. 01: terms "have at most 256 nodes"
+unfoldable pub walked : List ℕ → List ℕ → ℕ → Walk
+walked book s at = walk book s 256 (start at)
+
+-- "a = 0", of a node
+unfoldable pub Calm : Node Exp → Type 0
+Calm (nvar x) = Unit {0}
+Calm (nfun f) = Unit {0}
+Calm (npow s e) = Still e

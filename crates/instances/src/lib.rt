@@ -1,0 +1,279 @@
+// Terms that lie packed in a file: the walk over one, and the normal form of an instance built in one pass.
+use bits::Cursor;
+use bits::Field;
+use table::Item;
+use table::Pushed;
+ghost use mathlib.Core.Path.{_≡_};
+ghost use mathlib.Core.List.{flatMap};
+ghost use Prim.Native.Nat.{_+_, _≤_, _^_};
+ghost use lib.ListN.{length};
+ghost use Rattle.patterns.specs.First.{shift};
+ghost use Rattle.patterns.specs.Every.{Every};
+ghost use Rattle.patterns.specs.Push.{retag};
+ghost use Rattle.table.specs.Answer.{Says};
+ghost use Rattle.table.specs.Nodes.{stack, load};
+ghost use Rattle.table.specs.Sides.{Room, Took};
+ghost use Rattle.instances.specs.Instances.{Skips, Levels, Builds};
+ghost use Rattle.instances.specs.Headers.{variableAt, symbolAt, powerAt, headerAt};
+ghost use Rattle.instances.specs.Walks.{single, Next, walked, Calm};
+ghost use Rattle.instances.specs.Filled.{wordOf, filled};
+
+// The header of a node, with the cursor past it: a variable, a symbol with its arity, or a power of a symbol with a and b. It is missing where a field
+// runs past the end or the tag is 3.
+enum Header {
+    Variable(u16, Cursor),
+    Symbol(u16, u16, Cursor),
+    Power(u16, u16, u16, Cursor),
+    Missing,
+}
+
+// Where a walk stands: the bit, and how many terms are still to come.
+struct Place {
+    at: usize,
+    pending: usize,
+}
+
+// A side of a comparison: how many nodes it has, and where the term behind it ends; or it has more than 1,024.
+pub enum Side {
+    Done(usize, usize),
+    Full,
+}
+
+// A variable, behind its tag.
+fn variable(s: &[u8], c: Cursor) -> Header
+    ensures { λ r. ⌜ r ≡ variableAt (now (s .entry)) (c .at) ⌝ }
+{
+    match c.take(6, s) {
+        Field::Got(x, d) => Header::Variable(x, d),
+        Field::Past => Header::Missing,
+    }
+}
+
+// A symbol, behind its tag.
+fn symbol(book: &[u8], s: &[u8], c: Cursor) -> Header
+    ensures { λ r. ⌜ r ≡ symbolAt (now (book .entry)) (now (s .entry)) (c .at) ⌝ }
+{
+    let none = [0u16; 0];
+    match c.take(8, s) {
+        Field::Got(f, d) => Header::Symbol(f, terms::arity(book, &none, false, f), d),
+        Field::Past => Header::Missing,
+    }
+}
+
+// A power, behind its tag.
+fn power(s: &[u8], c: Cursor) -> Header
+    ensures { λ r. ⌜ r ≡ powerAt (now (s .entry)) (c .at) ⌝ }
+{
+    let Field::Got(f, d) = c.take(8, s) else {
+        return Header::Missing;
+    };
+    let Field::Got(a, e) = d.take(12, s) else {
+        return Header::Missing;
+    };
+    let Field::Got(b, g) = e.take(12, s) else {
+        return Header::Missing;
+    };
+    Header::Power(f, a, b, g)
+}
+
+// The header of the node at a bit.
+fn header_at(book: &[u8], s: &[u8], at: usize) -> Header
+    ensures { λ r. ⌜ r ≡ headerAt (now (book .entry)) (now (s .entry)) at ⌝ }
+{
+    let c = Cursor { at };
+    let Field::Got(tag, d) = c.take(2, s) else {
+        return Header::Missing;
+    };
+    match tag {
+        0 => variable(s, d),
+        1 => symbol(book, s, d),
+        2 => power(s, d),
+        _ => Header::Missing,
+    }
+}
+
+// The place behind a node.
+fn next(header: Header, pending: usize) -> Place
+    requires { ⌜ (1 ≤ pending) × (pending ≤ 2 ^ 32) ⌝ }
+    ensures { λ r. ⌜ Next pending header r ⌝ }
+{
+    match header {
+        Header::Variable(_, c) => Place {
+            at: c.at,
+            pending: pending - 1,
+        },
+        Header::Symbol(_, n, c) => Place {
+            at: c.at,
+            pending: pending - 1 + (n as usize),
+        },
+        Header::Power(_, _, _, c) => Place { at: c.at, pending },
+        Header::Missing => Place { at: 0, pending: 0 },
+    }
+}
+
+// Where the term at a bit ends.
+pub fn skip(book: &[u8], s: &[u8], at: usize) -> usize
+    ensures { λ r. ⌜ Skips (now (book .entry)) (now (s .entry)) at r ⌝ }
+{
+    let mut p = Place { at, pending: 1 };
+    let mut left: usize = 256;
+    while left > 0 {
+        let pending = p.pending;
+        if pending == 0 {
+            return p.at;
+        }
+        let header = header_at(book, s, p.at);
+        p = next(header, pending);
+        left -= 1;
+    }
+    p.at
+}
+
+// Whether a = 0 in a node.
+fn calm(header: Header) -> bool
+    ensures { λ r. ⌜ Says (Every Calm (single header)) r ⌝ }
+{
+    match header {
+        Header::Variable(_, _) => true,
+        Header::Symbol(_, _, _) => true,
+        Header::Power(_, a, _, _) => a == 0,
+        Header::Missing => true,
+    }
+}
+
+// Whether the term at a bit is the same at every index: a = 0 in each of its powers.
+pub fn level(book: &[u8], s: &[u8], at: usize) -> bool
+    ensures { λ r. ⌜ Levels (now (book .entry)) (now (s .entry)) at r ⌝ }
+{
+    let mut p = Place { at, pending: 1 };
+    let mut left: usize = 256;
+    while left > 0 {
+        let pending = p.pending;
+        if pending == 0 {
+            return true;
+        }
+        let header = header_at(book, s, p.at);
+        if !calm(header) {
+            return false;
+        }
+        p = next(header, pending);
+        left -= 1;
+    }
+    true
+}
+
+// A node, reindexed by (i, j).
+fn push_node(w: &mut [u64], base: usize, n: usize, header: Header, i: u16, j: u16) -> Pushed
+    requires { ⌜ Room base n (now w) ⌝ }
+    requires { ⌜ load (stack (now w) base n) ≤ 2 ^ 62 ⌝ }
+    ensures { λ r. ⌜ Took base n (retag (shift (i, j)) (single header)) (now (w .entry)) (now (w .exit)) r ⌝ }
+{
+    match header {
+        Header::Variable(x, _) => table::push(w, base, n, Item::Variable(x)),
+        Header::Symbol(f, _, _) => table::push(w, base, n, Item::Symbol(f)),
+        Header::Power(s, a, b, _) => table::push(w, base, n, table::reindexed(s, a, b, i, j)),
+        Header::Missing => Pushed::Count(n),
+    }
+}
+
+// The nodes of the term at a bit, just as they stand.
+fn spell(book: &[u8], s: &[u8], w: &mut [u64], base: usize, count: usize, at: usize) -> Pushed
+    requires { ⌜ Room base count (now w) ⌝ }
+    requires { ⌜ load (stack (now w) base count) ≤ 2 ^ 60 ⌝ }
+    ensures { λ r. ⌜ Took base count (walked (now (book .entry)) (now (s .entry)) at .met) (now (w .entry)) (now (w .exit)) r ⌝ }
+{
+    let mut n = count;
+    let mut p = Place { at, pending: 1 };
+    let mut left: usize = 256;
+    while left > 0 {
+        let pending = p.pending;
+        if pending == 0 {
+            return Pushed::Count(n);
+        }
+        let header = header_at(book, s, p.at);
+        let Pushed::Count(k) = push_node(w, base, n, header, 1, 0) else {
+            return Pushed::NoRoom;
+        };
+        n = k;
+        p = next(header, pending);
+        left -= 1;
+    }
+    Pushed::Count(n)
+}
+
+// What the filling's table at `fills` has for a node: 0, or one more than the place of its term.
+fn word_of(w: &[u64], fills: usize, header: Header) -> u64
+    requires { ⌜ fills + 64 ≤ length (now w) ⌝ }
+    ensures { λ r. ⌜ r ≡ wordOf (now (w .entry)) fills header ⌝ }
+{
+    match header {
+        Header::Variable(x, _) => {
+            if x < 64 {
+                return w[fills + (x as usize)];
+            }
+            0
+        }
+        Header::Symbol(_, _, _) => 0,
+        Header::Power(_, _, _, _) => 0,
+        Header::Missing => 0,
+    }
+}
+
+// A node of an instance: a listed variable's term as it stands, any other node reindexed.
+fn push_filled(
+    book: &[u8],
+    certificate: &[u8],
+    w: &mut [u64],
+    base: usize,
+    n: usize,
+    header: Header,
+    i: u16,
+    j: u16,
+    fills: usize,
+) -> Pushed
+    requires { ⌜ Room base n (now w) ⌝ }
+    requires { ⌜ (load (stack (now w) base n) ≤ 2 ^ 60) × (fills + 64 ≤ length (now w)) ⌝ }
+    ensures { λ r. ⌜ Took base n (flatMap (filled (now (book .entry)) (now (certificate .entry)) (now (w .entry)) fills i j) (single header)) (now (w .entry)) (now (w .exit)) r ⌝ }
+{
+    let word = word_of(w, fills, header);
+    if word == 0 {
+        return push_node(w, base, n, header, i, j);
+    }
+    spell(book, certificate, w, base, n, (word - 1) as usize)
+}
+
+// The instance of the term at a bit of s, reindexed by (i, j) and filled as the table at `fills` tells by terms of the certificate: the nodes of its
+// normal form on the side at `base`.
+pub fn build(
+    book: &[u8],
+    s: &[u8],
+    certificate: &[u8],
+    w: &mut [u64],
+    base: usize,
+    at: usize,
+    i: u16,
+    j: u16,
+    fills: usize,
+) -> Side
+    requires { ⌜ (base + 3072 ≤ length (now w)) × (fills + 64 ≤ base) ⌝ }
+    ensures { λ r. ⌜ Builds (now (book .entry)) (now (s .entry)) (now (certificate .entry)) base at i j fills (now (w .entry)) (now (w .exit)) r ⌝ }
+{
+    let mut n: usize = 0;
+    let mut p = Place { at, pending: 1 };
+    let mut left: usize = 256;
+    while left > 0 {
+        let pending = p.pending;
+        if pending == 0 {
+            return Side::Done(n, p.at);
+        }
+        let header = header_at(book, s, p.at);
+        let Pushed::Count(k) = push_filled(book, certificate, w, base, n, header, i, j, fills)
+        else {
+            return Side::Full;
+        };
+        n = k;
+        p = next(header, pending);
+        left -= 1;
+    }
+    Side::Done(n, p.at)
+}

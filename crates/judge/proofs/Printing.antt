@@ -1,0 +1,20 @@
+-- The line of an input's verdict, in the bytes that are lent for it.
+use Prim.Native.Nat.{ℕ, _≤_}
+use mathlib.Core.Path.{_≡_, _∙_, ap, sym}
+use mathlib.Core.List.{List}
+use native.Mathlib.Omega.{arith}
+use lib.ListN.{length, take, length-take}
+use Rattle.io.specs.Counts.{Counts}
+use Rattle.patterns.specs.First.{Pace}
+use Rattle.patterns.specs.Judge.{Verdict}
+use Rattle.verdicts.specs.declared.Verdict.{Verdict as Ruling}
+use Rattle.verdicts.specs.Verdicts.{paper}
+use Rattle.verdicts.specs.Lines.{line-of}
+use Rattle.verdicts.proofs.Printed.{Writes, line-first}
+
+pub line-printed : (v : Ruling) {w : Verdict Pace} (out : List ℕ) {r : ℕ} {out′ : List ℕ} → 91 ≤ length out → paper v ≡ w
+    → Writes (line-of (paper v)) out r out′ → Counts r out′ × (take r out′ ≡ line-of w)
+line-printed v out {r} {out′} h e p =
+    let q = line-first (line-of (paper v)) out h p in
+    let n : length (take r out′) ≡ r = ap length (q .1) ∙ sym (q .0) in
+    ((omega (arith, length-take r out′), sym n), q .1 ∙ ap line-of e)

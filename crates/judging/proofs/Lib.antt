@@ -1,0 +1,3 @@
+-- The laws of the judge over bytes.
+pub mod Inputs
+pub mod Opened

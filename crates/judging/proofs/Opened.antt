@@ -1,0 +1,98 @@
+-- A file that was opened lies in its bytes, field by field, and the verdict on two such files is that of the judge over trees.
+use Prim.Native.Nat.{ℕ, _+_, _≤_}
+use mathlib.Core.Path.{_≡_, refl, sym, subst, ap, _∙_}
+use mathlib.Core.Bool.{false}
+use mathlib.Core.List.{List, []}
+use native.Mathlib.Omega.{arith}
+use Rattle.bits.specs.Bits.{roomOf}
+use Rattle.bits.specs.Packed.{width, Reads}
+use Rattle.patterns.specs.Refusal.{book-place, certificate-place}
+use Rattle.patterns.specs.First.{Exp, Pair, Pace, one}
+use Rattle.patterns.specs.Certificate.{Certificate}
+use Rattle.patterns.specs.Judge.{refuse, judge}
+use Rattle.fields.specs.Source.{from}
+use Rattle.fields.specs.Grammar.{Grammar, trace}
+use Rattle.fields.specs.Spells.{Spells}
+use Rattle.fields.proofs.Found.{trace-reads, trace-room, trace-spells}
+use Rattle.grammar.specs.Books.{RuleBook, a-book}
+use Rattle.grammar.specs.Listing.{Fields, book-fields, certificate-fields}
+use Rattle.grammar.specs.Limits.{BookFits, CertificateFits}
+use Rattle.grammar.proofs.BookFields.{a-book-exactly}
+use Rattle.grammar.proofs.CertificateFields.{a-certificate-exactly}
+use Rattle.terms.specs.Values.{nothing}
+use Rattle.books.specs.Counts.{start}
+use Rattle.layout.specs.declared.Opening.{Opening}
+use Rattle.layout.specs.declared.Opening.the-variants.{Open, Shut}
+use Rattle.layout.specs.declared.Refusal.{Refusal as Fault}
+use Rattle.layout.specs.Files.{good, open-bytes, open-book, open-certificate, certificate-of}
+use Rattle.layout.specs.Answers.{paper-refusal}
+use Rattle.layout.specs.Openings.{Beside, CertificateOpened}
+use Rattle.layout.proofs.Opens.{in-bytes}
+use Rattle.layout.proofs.Answering.{opening-shut, opening-good}
+use Rattle.layout.proofs.Besides.{arities-known}
+use Rattle.instances.specs.Lying.{Lies}
+use Rattle.checking.specs.Placed.{Known-arities}
+use Rattle.lines.specs.Certificates.{JudgesLines}
+use Rattle.verdicts.specs.Verdicts.{paper}
+use Rattle.verdicts.specs.declared.Verdict.{Verdict as Ruling}
+use Rattle.verdicts.specs.declared.Verdict.the-variants.{Refused}
+use Rattle.verdicts.specs.Judging.{judging-certificate}
+use Rattle.verdicts.proofs.Layers.{certificate-refused, both-opened}
+
+-- ---- what was opened lies there
+
+pub record LiesOpened {A : Type 0} (p : Grammar A) (s : List ℕ) (a : A) (fs : Fields) : Type 0 where
+  pub spelled : Spells p a fs
+  pub lies : Lies s 0 fs
+
+lies-opened : {A : Type 0} (w : ℕ) (p : Grammar A) (s : List ℕ) {a : A} {fs : Fields} → open-bytes w p s ≡ good a fs → LiesOpened p s a fs
+lies-opened w p s {a} {fs} e =
+    let x = in-bytes w p s e in
+    record {
+      spelled = subst (Spells p a) (x .fields) (trace-spells s [] p (start false) (x .found));
+      lies = record {
+        reads = subst (Reads s 0) (x .fields) (trace-reads s [] p (start false) refl);
+        room = subst (λ gs. 0 + width gs ≤ roomOf s) (x .fields) (trace-room s [] p (start false) refl (omega arith));
+      };
+    }
+
+pub record BookLies (s : List ℕ) (b : RuleBook) : Type 0 where
+  pub fits : BookFits b
+  pub lies : Lies s 0 (book-fields b)
+
+pub book-lies : {s : List ℕ} {b : RuleBook} {fs : Fields} → open-book s ≡ good b fs → BookLies s b
+unfolding open-book
+book-lies {s} {b} {fs} e =
+    let x = lies-opened book-place a-book s e in
+    let y = a-book-exactly .forth b fs (x .spelled) in
+    record { fits = y .0; lies = subst (Lies s 0) (y .1) (x .lies) }
+
+pub record CertificateLies (s : List ℕ) (b : RuleBook) (K : Certificate Exp Pair Pace) : Type 0 where
+  pub fits : CertificateFits b K
+  pub lies : Lies s 0 (certificate-fields K)
+
+pub certificate-lies : {s : List ℕ} {b : RuleBook} {K : Certificate Exp Pair Pace} {fs : Fields} → BookFits b → open-certificate b s ≡ good K fs
+    → CertificateLies s b K
+unfolding open-certificate certificate-of
+certificate-lies {s} {b} {K} {fs} f e =
+    let x = lies-opened certificate-place (certificate-of b) s e in
+    let y = a-certificate-exactly b f .forth K fs (x .spelled) in
+    record { fits = y .0; lies = subst (Lies s 0) (y .1) (x .lies) }
+
+-- ---- the certificate beside its book
+
+module _ {book counts certificate : List ℕ} {o : Opening} (B : Beside book counts) (C : CertificateOpened book certificate o) where
+  pub certificate-shut : {r : Fault} → o ≡ Shut r → paper (Refused r) ≡ judging-certificate book certificate
+  unfolding paper
+  certificate-shut {r} e =
+      sym (certificate-refused book certificate (B .tree) (B .fields) (B .opened) (paper-refusal r)
+      (opening-shut nothing (open-certificate (B .tree) certificate) (C .told (B .tree) (B .fields) (B .opened)) e))
+
+  pub certificate-judged : {v n k : ℕ} {w after : List ℕ} {r : Ruling} → o ≡ Open v n k → JudgesLines book certificate w after r
+      → paper r ≡ judging-certificate book certificate
+  certificate-judged e j =
+      let g = opening-good nothing (open-certificate (B .tree) certificate) (C .told (B .tree) (B .fields) (B .opened)) e in
+      let b = book-lies (B .opened) in
+      let c = certificate-lies (b .fits) (g .is) in
+      j .told (B .tree) (arities-known book [] counts B) (b .fits) (b .lies) (g .tree) (c .fits) (c .lies)
+      ∙ sym (both-opened book certificate (B .tree) (B .fields) (B .opened) (g .tree) (g .fields) (g .is))

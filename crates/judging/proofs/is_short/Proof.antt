@@ -1,0 +1,12 @@
+use Rattle.judging.proofs.Inputs.{says-less}
+use Rattle.judging.proofs.is_short.Statement.{statement}
+use Rattle.judging.proofs.is_short.Tie as tie
+use Rattle.judging.proofs.is_short.Reads as reads
+use Rattle.judging.proofs.is_short.Lts as lts
+
+-- src/lib.rt:62:1
+returns : tie.Need-returns
+returns c = says-less _ _
+
+pub is-short-spec : {M : Type 1} → statement M
+is-short-spec = tie.close (tie.spec returns)

@@ -1,0 +1,124 @@
+// The judge over bytes: over a book and a certificate, and over the program's input that holds both.
+use layout::Opening;
+use layout::Place;
+use layout::Refusal;
+use verdicts::Verdict;
+ghost use mathlib.Core.Path.{_≡_};
+ghost use Prim.Native.Nat.{_≤_, _<_};
+ghost use lib.ListN.{length};
+ghost use Rattle.table.specs.Answer.{Says};
+ghost use Rattle.layout.specs.Files.{refusal-at};
+ghost use Rattle.layout.specs.Answers.{w-of};
+ghost use Rattle.layout.specs.Openings.{Beside};
+ghost use Rattle.patterns.specs.Judge.{refuse};
+ghost use Rattle.verdicts.specs.Verdicts.{paper};
+ghost use Rattle.verdicts.specs.Judging.{judging-certificate, judging-files, judging, work-after};
+ghost use Rattle.verdicts.specs.Program.{book-length, unframed, judging-input};
+
+// A refusal that names no place in a file.
+fn refused(number: u16, place: Place) -> Verdict
+    ensures { λ r. ⌜ paper r ≡ refuse (refusal-at number (w-of place) 0) ⌝ }
+{
+    Verdict::Refused(Refusal {
+        number,
+        place,
+        a: 0,
+        b: 0,
+    })
+}
+
+// The certificate beside its good book: read to its end, then judged.
+fn judge_certificate(book: &[u8], counts: &[u8], certificate: &[u8], work: &mut [u64]) -> Verdict
+    requires { ⌜ Beside (now book) (now counts) × (length (now certificate) ≤ 32768) × (8192 ≤ length (now work)) ⌝ }
+    ensures answered { λ r. ⌜ paper r ≡ judging-certificate (now (book .entry)) (now (certificate .entry)) ⌝ }
+    ensures lent { λ _. ⌜ length (now (work .exit)) ≡ length (now (work .entry)) ⌝ }
+{
+    match layout::open_certificate(book, counts, certificate) {
+        Opening::Shut(r) => Verdict::Refused(r),
+        Opening::Open(_, _, _) => lines::judge_lines(book, certificate, work),
+    }
+}
+
+// Both files: their lengths, the whole book, and the certificate beside it.
+fn judge_files(book: &[u8], certificate: &[u8], work: &mut [u64]) -> Verdict
+    requires { ⌜ 8192 ≤ length (now work) ⌝ }
+    ensures answered { λ r. ⌜ paper r ≡ judging-files (now (book .entry)) (now (certificate .entry)) ⌝ }
+    ensures lent { λ _. ⌜ length (now (work .exit)) ≡ length (now (work .entry)) ⌝ }
+{
+    if book.len() > 16384 {
+        return refused(2, Place::Book);
+    }
+    if certificate.len() > 32768 {
+        return refused(2, Place::Certificate);
+    }
+    let mut counts = [0u8; 256];
+    match layout::open_book(book, &mut counts) {
+        Opening::Shut(r) => Verdict::Refused(r),
+        Opening::Open(m, _, _) => judge_certificate(book, &counts[..m], certificate, work),
+    }
+}
+
+// Whether a work table has fewer than 8,192 numbers.
+fn is_short(work: &[u64]) -> bool
+    ensures { λ r. ⌜ Says (length (now (work .entry)) < 8192) r ⌝ }
+{
+    work.len() < 8192
+}
+
+// Judges a certificate over its book.
+pub fn judge(book: &[u8], certificate: &[u8], work: &mut [u64]) -> Verdict
+    ensures answered { λ r. ⌜ paper r ≡ judging (now (book .entry)) (now (certificate .entry)) (length (now (work .entry))) ⌝ }
+    ensures cleared { λ _. ⌜ now (work .exit) ≡ work-after (now (work .entry)) ⌝ }
+{
+    if is_short(work) {
+        return refused(1, Place::Neither);
+    }
+    let v = judge_files(book, certificate, work);
+    table::clear(work);
+    v
+}
+
+// The work table as every call leaves it: all zeros, or as it was where it has fewer than 8,192 numbers.
+fn leave(work: &mut [u64])
+    ensures { λ _. ⌜ now (work .exit) ≡ work-after (now (work .entry)) ⌝ }
+{
+    if is_short(work) {
+        return;
+    }
+    table::clear(work);
+}
+
+// A refusal of the framing, which speaks of neither file.
+fn unframed(number: u16, work: &mut [u64]) -> Verdict
+    ensures answered { λ r. ⌜ paper r ≡ unframed number ⌝ }
+    ensures cleared { λ _. ⌜ now (work .exit) ≡ work-after (now (work .entry)) ⌝ }
+{
+    leave(work);
+    refused(number, Place::Neither)
+}
+
+// The book's length, from the input's first two bytes.
+fn book_length(input: &[u8]) -> usize
+    requires { ⌜ 2 ≤ length (now input) ⌝ }
+    ensures { λ r. ⌜ (r ≡ book-length (now (input .entry))) × (r ≤ 65535) ⌝ }
+{
+    256 * (input[0] as usize) + input[1] as usize
+}
+
+// Judges the book and the certificate that the program's input holds.
+pub fn judge_input(input: &[u8], work: &mut [u64]) -> Verdict
+    ensures answered { λ r. ⌜ paper r ≡ judging-input (now (input .entry)) (length (now (work .entry))) ⌝ }
+    ensures cleared { λ _. ⌜ now (work .exit) ≡ work-after (now (work .entry)) ⌝ }
+{
+    if input.len() > 49154 {
+        return unframed(2, work);
+    }
+    if input.len() < 2 {
+        return unframed(3, work);
+    }
+    let end = 2 + book_length(input);
+    if input.len() < end {
+        return unframed(3, work);
+    }
+    judge(&input[2..end], &input[end..], work)
+}

@@ -1,0 +1,85 @@
+-- What the judging of a line leaves in the table, and the verdict on a closing and on all lines.
+use Prim.Native.Nat.{ℕ, _+_, _<_, _≤_}
+use mathlib.Core.Path.{_≡_}
+use mathlib.Core.List.{List, [], _∷_, _++_, map, flatMap}
+use mathlib.Core.Option.{some}
+use lib.ListN.{length, getD, getElem?}
+use Rattle.bits.specs.Packed.{width}
+use Rattle.patterns.specs.Refusal.{Refusal, closing-place}
+use Rattle.patterns.specs.First.{Exp, Pair, Pace, one}
+use Rattle.patterns.specs.Derive.{Rule, Book}
+use Rattle.patterns.specs.Certificate.{by, Claim, Line, Closing, Certificate}
+use Rattle.patterns.specs.Judge.{place, line-checks, closing-checks, checks-from, first-unmet, verdict, judge}
+use Rattle.grammar.specs.Books.{RuleBook}
+use Rattle.grammar.specs.Listing.{line-fields, kind-fields, kind-number, closing-fields, certificate-fields, book-fields}
+use Rattle.grammar.specs.Limits.{ClaimFits, KindFits, LinesFit, ClosingFits, call-counts, BookFits, CertificateFits}
+use Rattle.verdicts.specs.Verdicts.{paper}
+use Rattle.verdicts.specs.declared.Verdict.{Verdict as Ruling}
+use Rattle.checking.specs.declared.Found.{Found}
+use Rattle.instances.specs.Lying.{Lies}
+use Rattle.instances.specs.Fillings.{entry, Fills as Tells}
+use Rattle.checking.specs.Placed.{Known-arities, RightAt, LeftAt, RuleAt}
+use Rattle.checking.specs.Known.{Below, Known}
+use Rattle.checking.specs.Found.{Finds}
+
+abbrev pub refusal-of : ℕ → ℕ → ℕ → ℕ → Refusal
+refusal-of number w a b = record { number = number; w = w; a = a; b = b }
+
+abbrev pub pace-of : ℕ → ℕ → Pace
+pace-of k α = record { k = k; α = α }
+
+-- line k's word of both kinds, and no other
+pub record NotesLine (k left right : ℕ) (w after : List ℕ) : Type 0 where
+  pub size : length after ≡ length w
+  pub left-word : getD after (256 + k) 0 ≡ left
+  pub right-word : getD after (512 + k) 0 ≡ right
+  pub others : (i : ℕ) → (i ≡ 256 + k → ⊥) → (i ≡ 512 + k → ⊥) → getD after i 0 ≡ getD w i 0
+
+-- the checks of what stands behind a claim
+pub record KindAt (book cert : List ℕ) (tag left right at : ℕ) (w after : List ℕ) (r : Found) : Type 0 where
+  pub told : (ars : List ℕ) (B : Book Exp) (es : List (Claim Exp)) → Known book cert w ars B es
+      → (l : Line Exp Pair) → LeftAt cert ars left (l .claim .left) → RightAt cert ars right (l .claim .right) → kind-number (l .kind) ≡ tag
+      → KindFits ars (call-counts B) (length es) (l .kind) → Lies cert at (kind-fields (l .kind))
+      → Finds (line-checks one es B (l .claim) (l .kind)) (at + width (kind-fields (l .kind))) r
+  pub below : Below 832 w after
+
+-- a line's checks, and the table with its claim among those before
+pub record LineAt (book cert : List ℕ) (at k : ℕ) (w after : List ℕ) (r : Found) : Type 0 where
+  pub told : (ars : List ℕ) (B : Book Exp) (es : List (Claim Exp)) → Known book cert w ars B es → length es ≡ k → k < 255
+      → (l : Line Exp Pair) → ClaimFits ars (l .claim) → KindFits ars (call-counts B) k (l .kind) → Lies cert at (line-fields l)
+      → Finds (line-checks one es B (l .claim) (l .kind)) (at + width (line-fields l)) r × Known book cert after ars B (es ++ (l .claim ∷ []))
+  pub size : length after ≡ length w
+
+-- the verdict of a closing whose filling stands in the table
+pub record ClosingBy (book cert : List ℕ) (line k α : ℕ) (w after : List ℕ) (r : Ruling) : Type 0 where
+  pub told : (ars : List ℕ) (B : Book Exp) (es : List (Claim Exp)) → Known book cert w ars B es
+      → (c : Closing Exp Pace) → c .line ≡ line → c .pace ≡ pace-of k α → Tells book cert w 896 (by (c .fills)) → c .line < length es
+      → paper r ≡ verdict one (first-unmet one (map (place one closing-place (c .line)) (closing-checks one es c))) c
+  pub size : length after ≡ length w
+
+-- of a closing that lies at a bit
+pub record ClosingAt (book cert : List ℕ) (at : ℕ) (w after : List ℕ) (r : Ruling) : Type 0 where
+  pub told : (ars : List ℕ) (B : Book Exp) (es : List (Claim Exp)) → Known book cert w ars B es
+      → (c : Closing Exp Pace) → ClosingFits ars (length es) c → Lies cert at (closing-fields c)
+      → paper r ≡ verdict one (first-unmet one (map (place one closing-place (c .line)) (closing-checks one es c))) c
+  pub size : length after ≡ length w
+
+-- of the n lines from number k on, and the closing
+pub record LinesAt (book cert : List ℕ) (at k n : ℕ) (w after : List ℕ) (r : Ruling) : Type 0 where
+  pub told : (ars : List ℕ) (B : Book Exp) (es : List (Claim Exp)) → Known book cert w ars B es → length es ≡ k
+      → (ls : List (Line Exp Pair)) (c : Closing Exp Pace) → length ls ≡ n → LinesFit ars (call-counts B) k ls → ClosingFits ars (k + n) c
+      → Lies cert at (flatMap line-fields ls ++ closing-fields c)
+      → paper r ≡ verdict one (first-unmet one (checks-from one B es k ls c)) c
+  pub size : length after ≡ length w
+
+-- the table made ready for a book
+pub record Prepares (book w after : List ℕ) : Type 0 where
+  pub told : (cert : List ℕ) (b : RuleBook) → Known-arities book (b .arities) → BookFits b → Lies book 0 (book-fields b)
+      → Known book cert after (b .arities) (b .rules) []
+  pub size : length after ≡ length w
+
+-- the whole: the verdict of the judge over trees
+pub record JudgesLines (book cert w after : List ℕ) (r : Ruling) : Type 0 where
+  pub told : (b : RuleBook) → Known-arities book (b .arities) → BookFits b → Lies book 0 (book-fields b)
+      → (K : Certificate Exp Pair Pace) → CertificateFits b K → Lies cert 0 (certificate-fields K) → paper r ≡ judge one (b .rules) K
+  pub size : length after ≡ length w

@@ -1,0 +1,2 @@
+-- What the functions of this crate are held to.
+pub mod Certificates

@@ -1,0 +1,158 @@
+// The lines of a certificate, each over those before it, and the closing: the verdict on two good files.
+use checking::Found;
+use checking::Kind;
+use checking::Subject;
+use layout::Place;
+use layout::Refusal;
+use verdicts::Acceptance;
+use verdicts::Verdict;
+ghost use mathlib.Core.Path.{_≡_};
+ghost use Prim.Native.Nat.{_+_, _≤_, _<_};
+ghost use lib.ListN.{length};
+ghost use Rattle.patterns.specs.Judge.{accept, refuse};
+ghost use Rattle.layout.specs.Answers.{w-of};
+ghost use Rattle.verdicts.specs.Verdicts.{paper};
+ghost use Rattle.lines.specs.Certificates.{refusal-of, pace-of, NotesLine, KindAt, LineAt, ClosingBy, ClosingAt, LinesAt, Prepares, JudgesLines};
+
+// Where both sides of line k lie, noted.
+fn note_line(w: &mut [u64], k: usize, left: usize, right: usize)
+    requires { ⌜ (8192 ≤ length (now w)) × (k < 256) ⌝ }
+    ensures { λ _. ⌜ NotesLine k left right (now (w .entry)) (now (w .exit)) ⌝ }
+{
+    w[256 + k] = left as u64;
+    w[512 + k] = right as u64;
+}
+
+// What stands behind a line's claim: an unfold, or a descent.
+fn behind_claim(
+    book: &[u8],
+    certificate: &[u8],
+    w: &mut [u64],
+    tag: u16,
+    left: usize,
+    right: usize,
+    at: usize,
+) -> Found
+    requires { ⌜ 8192 ≤ length (now w) ⌝ }
+    ensures { λ r. ⌜ KindAt (now (book .entry)) (now (certificate .entry)) tag left right at (now (w .entry)) (now (w .exit)) r ⌝ }
+{
+    match tag {
+        0 => unfolds::unfold(book, certificate, w, left, right, at),
+        _ => descents::descent(book, certificate, w, left, right, at),
+    }
+}
+
+// The line k at a bit: its claim is noted, and its checks are made.
+fn line(book: &[u8], certificate: &[u8], w: &mut [u64], at: usize, k: usize) -> Found
+    requires { ⌜ (8192 ≤ length (now w)) × (k < 256) ⌝ }
+    ensures { λ r. ⌜ LineAt (now (book .entry)) (now (certificate .entry)) at k (now (w .entry)) (now (w .exit)) r ⌝ }
+{
+    let tag = checking::field(certificate, 1, at);
+    let left = tag.at;
+    let right = instances::skip(book, certificate, left);
+    let rest = checking::pass_right(book, certificate, right);
+    note_line(w, k, left, right);
+    behind_claim(book, certificate, w, tag.value, left, right, rest)
+}
+
+// The closing's part 1, its filling indexed: the verdict.
+fn closing_by(
+    book: &[u8],
+    certificate: &[u8],
+    w: &mut [u64],
+    line: usize,
+    k: u16,
+    alpha: u16,
+) -> Verdict
+    requires { ⌜ (8192 ≤ length (now w)) × (line < 256) × (k < 4096) × (alpha < 4096) ⌝ }
+    ensures { λ r. ⌜ ClosingBy (now (book .entry)) (now (certificate .entry)) line k alpha (now (w .entry)) (now (w .exit)) r ⌝ }
+{
+    let left = checking::noted(w, 256 + line);
+    let right = checking::field(certificate, 1, checking::noted(w, 512 + line));
+    if right.value == 0 {
+        return refused(14, Place::Closing, line, 0);
+    }
+    let from = Subject::Plain(right.at, 1, alpha);
+    match checking::check(
+        book,
+        certificate,
+        w,
+        Kind::Closing,
+        1,
+        from,
+        Subject::Used(left, 1, alpha + k),
+    ) {
+        Found::Fault(n, p) => refused(n, Place::Closing, line, p),
+        Found::Good(_) => accepted(line, k, alpha),
+    }
+}
+
+// A refusal.
+fn refused(number: u16, place: Place, a: usize, b: usize) -> Verdict
+    ensures { λ r. ⌜ paper r ≡ refuse (refusal-of number (w-of place) a b) ⌝ }
+{
+    Verdict::Refused(Refusal {
+        number,
+        place,
+        a,
+        b,
+    })
+}
+
+// The closing's own numbers.
+fn accepted(line: usize, k: u16, alpha: u16) -> Verdict
+    ensures { λ r. ⌜ paper r ≡ accept line (pace-of k alpha) ⌝ }
+{
+    Verdict::Accepted(Acceptance {
+        line,
+        k: k as usize,
+        alpha: alpha as usize,
+    })
+}
+
+// The closing at a bit.
+fn closing(book: &[u8], certificate: &[u8], w: &mut [u64], at: usize) -> Verdict
+    requires { ⌜ 8192 ≤ length (now w) ⌝ }
+    ensures { λ r. ⌜ ClosingAt (now (book .entry)) (now (certificate .entry)) at (now (w .entry)) (now (w .exit)) r ⌝ }
+{
+    let line = checking::field(certificate, 8, at);
+    let n = line.value as usize;
+    let k = checking::field(certificate, 12, line.at);
+    let alpha = checking::field(certificate, 12, k.at);
+    fillings::list_filling(book, certificate, w, 896, alpha.at);
+    closing_by(book, certificate, w, n, k.value, alpha.value)
+}
+
+// The n lines from number k on, which lie at a bit, and the closing behind them.
+fn lines(book: &[u8], certificate: &[u8], w: &mut [u64], at: usize, k: usize, n: usize) -> Verdict
+    requires { ⌜ (8192 ≤ length (now w)) × (k + n ≤ 255) ⌝ }
+    ensures { λ r. ⌜ LinesAt (now (book .entry)) (now (certificate .entry)) at k n (now (w .entry)) (now (w .exit)) r ⌝ }
+{
+    if n == 0 {
+        return closing(book, certificate, w, at);
+    }
+    match line(book, certificate, w, at, k) {
+        Found::Fault(number, part) => refused(number, Place::Line, k, part),
+        Found::Good(next) => lines(book, certificate, w, next, k + 1, n - 1),
+    }
+}
+
+// The table made ready: no filling in the first filling table, and the begins of the rules.
+fn prepare(book: &[u8], w: &mut [u64])
+    requires { ⌜ 8192 ≤ length (now w) ⌝ }
+    ensures { λ _. ⌜ Prepares (now (book .entry)) (now (w .entry)) (now (w .exit)) ⌝ }
+{
+    fillings::forget(w, 768);
+    checking::index_rules(book, w);
+}
+
+// The verdict on a good certificate beside a good book.
+pub fn judge_lines(book: &[u8], certificate: &[u8], w: &mut [u64]) -> Verdict
+    requires { ⌜ 8192 ≤ length (now w) ⌝ }
+    ensures { λ r. ⌜ JudgesLines (now (book .entry)) (now (certificate .entry)) (now (w .entry)) (now (w .exit)) r ⌝ }
+{
+    prepare(book, w);
+    let count = checking::field(certificate, 8, 0);
+    let n = count.value as usize;
+    lines(book, certificate, w, count.at, 0, n)
+}

@@ -1,0 +1,2 @@
+-- The laws behind the contracts of this crate.
+pub mod Unfoldings

@@ -1,0 +1,439 @@
+-- The parts of an unfold, from the last back to the head.
+use Prim.Native.Nat.{ℕ, zero, suc, _+_, _-_, _≤_, _<_}
+use mathlib.Core.Path.{_≡_, refl, sym, subst, ap, _∙_}
+use mathlib.Core.Logic.{_≢_}
+use mathlib.Core.Bool.{Bool, true, false, cond}
+use mathlib.Core.List.{List, [], _∷_, _++_, map, flatMap, append-assoc}
+use mathlib.Core.Option.{Option, none, some, Option·some-injective, Option·some-ne-none}
+use native.Mathlib.Omega.{arith}
+use borrow.Author.Tests.{eq-eqb, ne-eqb}
+use lib.Dec.{eqb}
+use lib.ListN.{length, getD, getElem?}
+use Rattle.bits.specs.Packed.{width}
+use Rattle.bits.proofs.Groups.{width-append}
+use Rattle.patterns.specs.Term.{fill}
+use Rattle.patterns.specs.First.{Exp, Pattern, Pair, one}
+use Rattle.patterns.specs.Every.{Every}
+use Rattle.patterns.specs.Derive.{Rule, Book}
+use Rattle.patterns.specs.Certificate.{Fills, by, Mark, Claim, Use, Stop, fact, call, Kind, unfolds}
+use Rattle.patterns.specs.Checks.{instance, instance-mark, reindex-mark}
+use Rattle.patterns.specs.Demand.{empty, present, Met}
+use Rattle.patterns.specs.Judge.{Check, check, compare, given, pending, parts, stops, line-checks}
+use Rattle.grammar.specs.Listing.{Fields, if-any, term-fields, rule-fields, use-fields, filling-fields, stop-fields, stop-number, kind-fields}
+use Rattle.grammar.specs.Limits.{RootFits, UseFits, LastFits, StopFits, KindFits, call-counts}
+use Rattle.table.specs.Answer.{Says}
+use Rattle.table.proofs.Comparing.{says-true, says-false}
+use Rattle.checking.specs.declared.Read.{Read}
+use Rattle.checking.specs.declared.Found.{Found}
+use Rattle.checking.specs.declared.Found.the-variants.{Fault, Good}
+use Rattle.checking.specs.declared.Kind.the-variants.{Unfold}
+use Rattle.checking.specs.declared.Instance.{Instance}
+use Rattle.checking.specs.declared.Subject.{Subject}
+use Rattle.checking.specs.declared.Subject.the-variants.{Empty, Call, Plain, Used}
+use Rattle.instances.specs.Lying.{Lies, behind}
+use Rattle.fillings.specs.Listings.{Lists}
+use Rattle.checking.specs.Placed.{Takes, RightAt, LeftAt, RuleAt}
+use Rattle.checking.specs.Known.{Below, Known, Scene, Uses, ReadsUse}
+use Rattle.checking.specs.Subjects.{Means, PlainRight, UsedRight}
+use Rattle.checking.specs.Found.{Finds, number-at, Checks}
+use Rattle.unfolds.specs.Unfoldings.{EmptyRight, Pends, Spends, EndsAt, CallsAt, Unfolding, StopsBy, CallUsed, PartBy, LastPart, EndsBy, EndsUsed, Ends, Parts, Stops, UnfoldsBy, UnfoldAt}
+use Rattle.instances.proofs.Lying.{lies-rest, lies-front, lies-back}
+use Rattle.checking.proofs.Using.{rest-at}
+use Rattle.checking.proofs.Frames.{below-then, below-less, below-self, kept-below, known-below, scene-below, uses-below}
+use Rattle.checking.proofs.Subjects.{means-below}
+use Rattle.checking.proofs.Meanings.{call-means, left-itself, used-means, right-itself}
+use Rattle.checking.proofs.Finding.{fault-none, finds-fault, finds-last, finds-stop, finds-then, finds-met, finds-unmet, finds-none, finds-ending}
+
+-- ---- the empty mark
+
+pub empty-right : {cert : List ℕ} {at : ℕ} {c : Read} → Takes cert 1 at c → EmptyRight cert at (eqb (c .value) 0)
+unfolding if-any Says
+empty-right {cert} {at} {c} t = record { told = go }
+  where
+    go : (ars : List ℕ) (m : Mark Exp) → RightAt cert ars at m → Says (m ≡ none) (eqb (c .value) 0)
+    go ars none r = subst (Says _) (sym (eq-eqb _ _ (t .told 0 [] (r .lies) .0))) refl
+    go ars (some u) r =
+        subst (Says _) (sym (ne-eqb (c .value) 0 (λ z. omega (arith, t .told 1 (term-fields u) (r .lies) .0)))) (Option·some-ne-none u)
+
+module _ {cert : List ℕ} {right j : ℕ} {b : Bool} (e : EmptyRight cert right b) where
+  pub spends-met : b ≡ true → Spends cert right j (Good 0)
+  unfolding Met
+  spends-met q = record { told = λ ars m a. finds-met (says-true _ (e .told ars m a) q) }
+
+  pub spends-unmet : b ≡ false → Spends cert right j (Fault 11 j)
+  unfolding Met
+  spends-unmet q = record { told = λ ars m a. finds-unmet [] (says-false _ (e .told ars m a) q) }
+
+  pub pends-unmet : {count : ℕ} → j < count → b ≡ true → Pends cert right j count (Fault 11 j)
+  unfolding pending Met
+  pends-unmet {count} l q = record { told = λ ars m a vs c. go m vs c (says-true _ (e .told ars m a) q) }
+    where
+      go : (m : Mark Exp) (vs : List Pattern) → count ≡ j + length vs → m ≡ none → Finds (pending j vs m) 0 (Fault 11 j)
+      go m [] c h = absurd (omega arith)
+      go m (v ∷ vs) c h = finds-unmet [] (λ n. n h)
+
+  pub pends-met : {count : ℕ} → b ≡ false → Pends cert right j count (Good 0)
+  unfolding pending Met
+  pends-met {count} q = record { told = λ ars m a vs c. go m vs (says-false _ (e .told ars m a) q) }
+    where
+      go : (m : Mark Exp) (vs : List Pattern) → m ≢ none → Finds (pending j vs m) 0 (Good 0)
+      go m [] h = finds-none fault-none
+      go m (v ∷ vs) h = finds-met h
+
+pub pends-nothing : {cert : List ℕ} {right j count : ℕ} → count ≤ j → Pends cert right j count (Good 0)
+unfolding pending
+pends-nothing {cert} {right} {j} {count} l = record { told = λ ars m a vs q. go m vs q }
+  where
+    go : (m : Mark Exp) (vs : List Pattern) → count ≡ j + length vs → Finds (pending j vs m) 0 (Good 0)
+    go m [] q = finds-none fault-none
+    go m (v ∷ vs) q = absurd (omega arith)
+
+-- ---- the end of a line
+
+pub ends-fault : {found : Found} {at n p : ℕ} → found ≡ Fault n p → EndsAt found at (Fault n p)
+ends-fault q = record { told = λ ks e h. finds-fault h q }
+
+pub ends-good : {found : Found} {at x : ℕ} → found ≡ Good x → EndsAt found at (Good at)
+ends-good q = record { told = λ ks e h. finds-last h q }
+
+pub stops-by : {book cert w after : List ℕ} {right at : ℕ} {own theirs : Subject} {found r : Found} → PlainRight cert right 1 0 own
+    → Checks book cert Unfold 15 own theirs w after found → EndsAt found at r → StopsBy book cert right theirs at w after r
+unfolding number-at
+stops-by {book} {cert} {w} {after} {right} {at} {own} {theirs} p c e = record {
+  told = λ ars B es m known a k f x.
+      let o = p .told book w ars B es known m a in
+      e .told (compare 12 15 m k) (o .0) (c .told m (o .0) (subst (λ n. Means book cert w own n (o .0)) (right-itself m) (o .1)) k f x);
+  below = below-less (omega arith) (c .below);
+}
+
+-- ---- a call with a use
+
+first-lies : {book ars : List ℕ} {at : ℕ} {v : Pattern} {vs : List Pattern} {j count : ℕ} → CallsAt book ars at (v ∷ vs) j count
+    → Lies book at (term-fields v)
+unfolding flatMap
+first-lies {book} {at = at} {v} {vs} c = lies-front book at (term-fields v) (flatMap term-fields vs) (c .lies)
+
+first-fits : {book ars : List ℕ} {at : ℕ} {v : Pattern} {vs : List Pattern} {j count : ℕ} → CallsAt book ars at (v ∷ vs) j count → RootFits ars v
+unfolding Every
+first-fits c = c .fits .0
+
+at-ten : (j : ℕ) → 1 ≤ j → j ≤ 8 → number-at Unfold j ≡ 10
+unfolding number-at
+at-ten j l h = rw (ne-eqb j 0 (λ z. omega arith), ne-eqb j 15 (λ z. omega arith))
+
+pub call-used : {book cert w after : List ℕ} {j at : ℕ} {used : Instance} {r : Found}
+    → Checks book cert Unfold j (Call at) (Used (used .left) (used .i) (used .j)) w after r → CallUsed book cert j at used w after r
+call-used {book} {cert} {w} {after} {j} {at} {used} {r} c = record {
+  told = λ ars B es θ s v vs count a u d x.
+      subst (λ n. Finds (compare n j (some (fill (by θ) v)) (some (instance one u (d .left)))) (behind at v) r)
+      (at-ten j (a .first) (omega (arith, a .counted, a .few)))
+      (c .told _ _ (call-means s (first-fits a) (first-lies a)) _ _ (used-means (s .known) x));
+  below = c .below;
+}
+
+-- ---- a part before the last
+
+module _ {book cert : List ℕ} {j at : ℕ} {used : Instance} {q : Found} (k : Spends cert (used .right) j q) where
+  pub part-unspent : {w : List ℕ} {n p : ℕ} → q ≡ Fault n p → PartBy book cert j at used w w (Fault n p)
+  part-unspent {w} e = record {
+    told = λ ars B es θ s v vs count a u c x. finds-stop _ (k .told ars (c .right) (x .claim-at .right-at)) e;
+    below = below-self 1024 w;
+  }
+
+  pub part-called : {w after : List ℕ} {y : ℕ} {r : Found} → q ≡ Good y → CallUsed book cert j at used w after r → PartBy book cert j at used w after r
+  part-called e called = record {
+    told = λ ars B es θ s v vs count a u c x.
+        finds-then (k .told ars (c .right) (x .claim-at .right-at)) e (λ z. called .told ars B es θ s v vs count a u c x);
+    below = called .below;
+  }
+
+-- ---- the last call
+
+module _ {book cert : List ℕ} {j count at : ℕ} {used : Instance} {q : Found} (k : Pends cert (used .right) j count q) where
+  pub last-pending : {w : List ℕ} {n p : ℕ} → q ≡ Fault n p → LastPart book cert j count at used w w (Fault n p)
+  last-pending {w} e = record {
+    told = λ ars B es θ s v vs a u c x. finds-stop _ (k .told ars (c .right) (x .claim-at .right-at) vs (omega (arith, a .counted))) e;
+    below = below-self 1024 w;
+  }
+
+  pub last-called : {w after : List ℕ} {y : ℕ} {r : Found} → q ≡ Good y → CallUsed book cert j at used w after r → LastPart book cert j count at used w after r
+  last-called e called = record {
+    told = λ ars B es θ s v vs a u c x.
+        finds-then (k .told ars (c .right) (x .claim-at .right-at) vs (omega (arith, a .counted))) e
+        (λ z. called .told ars B es θ s v vs count a u c x);
+    below = called .below;
+  }
+
+module _ {book cert w after : List ℕ} {right j count at : ℕ} {used : Instance} {r : Found} (called : LastPart book cert j count at used w after r) where
+  pub ends-early : {n p : ℕ} → r ≡ Fault n p → EndsBy book cert right j count at used w after (Fault n p)
+  ends-early q = record {
+    told = λ ars B es θ m v vs U u c x. finds-stop _ (called .told ars B es θ (U .scene) v vs (U .calls-at) u c x) q;
+    below = below-less (omega arith) (called .below);
+  }
+
+  pub ends-by : {x : ℕ} {theirs : Subject} {end : List ℕ} {s : Found} → r ≡ Good x → UsedRight cert (used .right) (used .i) (used .j) theirs
+      → StopsBy book cert right theirs (used .end) after end s → EndsBy book cert right j count at used w end s
+  ends-by {x} {theirs} {end} {s} q t stopped = record {
+    told = λ ars B es θ m v vs U u c y.
+        let known = known-below (below-less (omega arith) (called .below)) (U .scene .known) in
+        let o = t .told book after ars B es known u (index u c y) (uses-below (called .below) y .used) (c .right) (y .claim-at .right-at) in
+        finds-then (called .told ars B es θ (U .scene) v vs (U .calls-at) u c y) q
+        (λ z. stopped .told ars B es m known (U .right-at) (instance-mark one u (c .right)) (o .0) (o .1));
+    below = below-then (below-less (omega arith) (called .below)) (stopped .below);
+  }
+    where
+      index : {ars : List ℕ} (u : Use Exp Pair) (c : Claim Exp) → Uses book cert w ars u c used → u .index ≡ (used .i, used .j)
+      index u c y = λ i. (sym (y .i) i, sym (y .j) i)
+
+-- ---- what a use names
+
+pub record Named (es : List (Claim Exp)) (k : ℕ) : Type 0 where
+  pub claim : Claim Exp
+  pub found : getElem? es k ≡ some claim
+
+pub named : (es : List (Claim Exp)) (k : ℕ) → k < length es → Named es k
+named [] k l = absurd (omega arith)
+named (c ∷ es) zero l = record { claim = c; found = refl }
+named (c ∷ es) (suc k) l = let n = named es k (omega arith) in record { claim = n .claim; found = n .found }
+
+pub finds-given : {A : Type 0} {o : Option A} {a : A} {end : ℕ} {r : Found} (f : A → List (Check Exp)) → o ≡ some a → Finds (f a) end r → Finds (given o f) end r
+unfolding given
+finds-given {A} {o} {a} {end} {r} f e h = subst (λ x. Finds (given x f) end r) (sym e) h
+
+pub ends-used : {book cert w v after : List ℕ} {right j count call at : ℕ} {used : Instance} {r : Found} → ReadsUse book cert at w v used
+    → EndsBy book cert right j count call used v after r → EndsUsed book cert right j count call at w after r
+unfolding parts
+ends-used {book} {cert} {w} {v} {after} {right} {j} {count} {call} {at} {used} {r} read ends = record {
+  told = λ ars B es θ m t ts U u fits lies.
+      let n = named es (u .line) (fits .earlier) in
+      let x = read .told ars B es (U .scene .known) (length es) u (n .claim) fits lies (n .found) in
+      finds-given _ (n .found)
+      (finds-ending (x .1)
+      (ends .told ars B es θ m t ts (record { scene = scene-below (read .below) (U .scene); right-at = U .right-at; calls-at = U .calls-at }) u (n .claim) (x .0)));
+  below = below-then (read .below) (ends .below);
+}
+
+module _ {book cert : List ℕ} {right j count call at : ℕ} {c : Read} {w after : List ℕ} {r : Found} (t : Takes cert 1 at c) where
+  pub ends-here : c .value ≡ 0 → StopsBy book cert right (Call call) (c .at) w after r → Ends book cert right j count call at w after r
+  unfolding parts if-any width
+  ends-here z s = record { told = go; below = s .below }
+    where
+      go : (ars : List ℕ) (B : Book Exp) (es : List (Claim Exp)) (θ : Fills Exp) (m : Mark Exp) (v : Pattern) (vs : List Pattern)
+          → Unfolding book cert w ars B es θ right m call (v ∷ vs) j count → (last : Option (Use Exp Pair)) → LastFits ars (length es) last
+          → Lies cert at (if-any use-fields last) → Finds (parts one es θ j (v ∷ vs) [] last m) (at + width (if-any use-fields last)) r
+      go ars B es θ m v vs U none fits lies =
+          subst (λ e. Finds (compare 12 15 m (some (fill (by θ) v))) e r) (t .told 0 [] lies .1 ∙ omega arith)
+          (s .told ars B es m (U .scene .known) (U .right-at) _ _ (call-means (U .scene) (first-fits (U .calls-at)) (first-lies (U .calls-at))))
+      go ars B es θ m v vs U (some u) fits lies = absurd (omega (arith, t .told 1 (use-fields u) lies .0))
+
+  pub ends-there : c .value ≢ 0 → EndsUsed book cert right j count call (c .at) w after r → Ends book cert right j count call at w after r
+  unfolding if-any width LastFits
+  ends-there ne s = record { told = go; below = s .below }
+    where
+      go : (ars : List ℕ) (B : Book Exp) (es : List (Claim Exp)) (θ : Fills Exp) (m : Mark Exp) (v : Pattern) (vs : List Pattern)
+          → Unfolding book cert w ars B es θ right m call (v ∷ vs) j count → (last : Option (Use Exp Pair)) → LastFits ars (length es) last
+          → Lies cert at (if-any use-fields last) → Finds (parts one es θ j (v ∷ vs) [] last m) (at + width (if-any use-fields last)) r
+      go ars B es θ m v vs U none fits lies = absurd (ne (t .told 0 [] lies .0))
+      go ars B es θ m v vs U (some u) fits lies =
+          subst (λ e. Finds (parts one es θ j (v ∷ vs) [] (some u) m) e r) (omega (arith, t .told 1 (use-fields u) lies .1))
+          (s .told ars B es θ m v vs U u fits (rest-at t lies))
+
+-- ---- the parts from j on
+
+-- the calls behind the first
+rest-calls : {book ars : List ℕ} {at next : ℕ} {v : Pattern} {vs : List Pattern} {j count : ℕ} → CallsAt book ars at (v ∷ vs) j count
+    → next ≡ behind at v → CallsAt book ars next vs (j + 1) count
+unfolding flatMap Every
+rest-calls {book} {at = at} {v = v} {vs = vs} c e = record {
+  lies = subst (λ k. Lies book k (flatMap term-fields vs)) (sym e) (lies-back book at (term-fields v) (flatMap term-fields vs) (c .lies));
+  fits = c .fits .1;
+  counted = omega (arith, c .counted);
+  first = omega arith;
+  few = c .few;
+}
+
+pub parts-last : {book cert w after : List ℕ} {right j count before call at : ℕ} {r : Found} → before ≡ 0 → Ends book cert right j count call at w after r
+    → Parts book cert right j count before call at w after r
+unfolding flatMap
+parts-last {book} {cert} {w} {after} {right} {j} {count} {before} {call} {at} {r} z e = record { told = go; below = e .below }
+  where
+    go : (ars : List ℕ) (B : Book Exp) (es : List (Claim Exp)) (θ : Fills Exp) (m : Mark Exp) (vs : List Pattern)
+        → Unfolding book cert w ars B es θ right m call vs j count → (us : List (Use Exp Pair)) (last : Option (Use Exp Pair)) → length us ≡ before
+        → before < length vs → Every (UseFits ars (length es)) us → LastFits ars (length es) last → Lies cert at (flatMap use-fields us ++ if-any use-fields last)
+        → Finds (parts one es θ j vs us last m) (at + width (flatMap use-fields us ++ if-any use-fields last)) r
+    go ars B es θ m [] U us last n l f g lies = absurd (omega arith)
+    go ars B es θ m (v ∷ vs) U [] last n l f g lies = e .told ars B es θ m v vs U last g lies
+    go ars B es θ m (v ∷ vs) U (u ∷ us) last n l f g lies = absurd (omega arith)
+
+-- one part, and what comes behind it
+module _ {book cert w v after : List ℕ} {j call at : ℕ} {used : Instance} {r : Found} (read : ReadsUse book cert at w v used) (part : PartBy book cert j call used v after r) where
+  module _ {ars : List ℕ} {B : Book Exp} {es : List (Claim Exp)} {θ : Fills Exp} {right : ℕ} {m : Mark Exp} {t : Pattern} {ts : List Pattern} {count : ℕ} (U : Unfolding book cert w ars B es θ right m call (t ∷ ts) j count) where
+    one-part : (us : List (Use Exp Pair)) (last : Option (Use Exp Pair)) {u : Use Exp Pair} (gs : Fields) → UseFits ars (length es) u → Lies cert at (use-fields u ++ gs) → {end : ℕ} {s : Found}
+        → ((ks : List (Check Exp)) → Finds ks (behind call t) r → Finds (ks ++ parts one es θ (suc j) ts us last m) end s)
+        → Finds (parts one es θ j (t ∷ ts) (u ∷ us) last m) end s
+    unfolding parts
+    one-part us last {u} gs fits lies {end} {s} rest =
+        let n = named es (u .line) (fits .earlier) in
+        let x = read .told ars B es (U .scene .known) (length es) u (n .claim) fits (lies-front cert at (use-fields u) gs lies) (n .found) in
+        finds-given _ (n .found) (rest _ (part .told ars B es θ (scene-below (read .below) (U .scene)) t ts count (U .calls-at) u (n .claim) (x .0)))
+
+    part-ends : {u : Use Exp Pair} (gs : Fields) → UseFits ars (length es) u → Lies cert at (use-fields u ++ gs) → used .end ≡ at + width (use-fields u)
+    part-ends {u} gs fits lies =
+        let n = named es (u .line) (fits .earlier) in
+        read .told ars B es (U .scene .known) (length es) u (n .claim) fits (lies-front cert at (use-fields u) gs lies) (n .found) .1
+
+  pub parts-fault : {right count before n p : ℕ} → before ≢ 0 → r ≡ Fault n p → Parts book cert right j count before call at w after (Fault n p)
+  unfolding flatMap Every
+  parts-fault {right} {count} {before} {n} {p} ne q = record { told = go; below = below-then (read .below) (below-less (omega arith) (part .below)) }
+    where
+      go : (ars : List ℕ) (B : Book Exp) (es : List (Claim Exp)) (θ : Fills Exp) (m : Mark Exp) (vs : List Pattern)
+          → Unfolding book cert w ars B es θ right m call vs j count → (us : List (Use Exp Pair)) (last : Option (Use Exp Pair)) → length us ≡ before
+          → before < length vs → Every (UseFits ars (length es)) us → LastFits ars (length es) last → Lies cert at (flatMap use-fields us ++ if-any use-fields last)
+          → Finds (parts one es θ j vs us last m) (at + width (flatMap use-fields us ++ if-any use-fields last)) (Fault n p)
+      go ars B es θ m [] U us last e l f g lies = absurd (omega arith)
+      go ars B es θ m (t ∷ ts) U [] last e l f g lies = absurd (ne (sym e))
+      go ars B es θ m (t ∷ ts) U (u ∷ us) last e l f g lies =
+          one-part U us last (flatMap use-fields us ++ if-any use-fields last) (f .0)
+          (subst (Lies cert at) (append-assoc (use-fields u) (flatMap use-fields us) (if-any use-fields last)) lies) (λ ks h. finds-stop _ h q)
+
+  pub parts-on : {right count before x : ℕ} {end : List ℕ} {s : Found} → before ≢ 0 → r ≡ Good x
+      → Parts book cert right (j + 1) count (before - 1) x (used .end) after end s → Parts book cert right j count before call at w end s
+  unfolding flatMap Every
+  parts-on {right} {count} {before} {x} {end} {s} ne q next = record {
+    told = go;
+    below = below-then (read .below) (below-then (below-less (omega arith) (part .below)) (next .below));
+  }
+    where
+      go : (ars : List ℕ) (B : Book Exp) (es : List (Claim Exp)) (θ : Fills Exp) (m : Mark Exp) (vs : List Pattern)
+          → Unfolding book cert w ars B es θ right m call vs j count → (us : List (Use Exp Pair)) (last : Option (Use Exp Pair)) → length us ≡ before
+          → before < length vs → Every (UseFits ars (length es)) us → LastFits ars (length es) last → Lies cert at (flatMap use-fields us ++ if-any use-fields last)
+          → Finds (parts one es θ j vs us last m) (at + width (flatMap use-fields us ++ if-any use-fields last)) s
+      go ars B es θ m [] U us last e l f g lies = absurd (omega arith)
+      go ars B es θ m (t ∷ ts) U [] last e l f g lies = absurd (ne (sym e))
+      go ars B es θ m (t ∷ ts) U (u ∷ us) last e l f g lies =
+          let gs = flatMap use-fields us ++ if-any use-fields last in
+          let all = append-assoc (use-fields u) (flatMap use-fields us) (if-any use-fields last) in
+          let here = subst (Lies cert at) all lies in
+          let ends = part-ends U gs (f .0) here in
+          let scene = scene-below (below-then (read .below) (below-less (omega arith) (part .below))) (U .scene) in
+          let behind-it = subst (λ k. Lies cert k gs) (sym ends) (lies-back cert at (use-fields u) gs here) in
+          one-part U us last gs (f .0) here (λ ks h. finds-then h q (λ z.
+          finds-ending (omega (arith, ends, width-append (use-fields u) gs, ap width all))
+          (subst (λ i. Finds (parts one es θ i ts us last m) (used .end + width gs) s) (omega arith)
+          (next .told ars B es θ m ts (record { scene = scene; right-at = U .right-at; calls-at = rest-calls (U .calls-at) z }) us last (omega (arith, e)) (omega (arith, l, e)) (f .1) g behind-it))))
+
+-- ---- where an unfold stops
+
+pub stops-fact : {book cert w after : List ℕ} {right i count call-at at : ℕ} {r : Found} → i ≡ 0 → StopsBy book cert right Empty at w after r
+    → Stops book cert right i count call-at at w after r
+unfolding stops stop-number StopFits stop-fields width Means
+stops-fact {book} {cert} {w} {after} {right} {i} {count} {call-at} {at} {r} z p = record { told = go; below = p .below }
+  where
+    go : (ars : List ℕ) (B : Book Exp) (es : List (Claim Exp)) (θ : Fills Exp) (m : Mark Exp) (vs : List Pattern)
+        → Unfolding book cert w ars B es θ right m call-at vs 1 count → (s : Stop Exp Pair) → stop-number s ≡ i → StopFits ars (length es) (length vs) s
+        → Lies cert at (stop-fields s) → Finds (stops one es θ vs s m) (at + width (stop-fields s)) r
+    go ars B es θ m [] U fact e fits lies = finds-ending (omega arith) (p .told ars B es m (U .scene .known) (U .right-at) none 0 (refl, refl))
+    go ars B es θ m (v ∷ vs) U fact e fits lies = absurd (omega arith)
+    go ars B es θ m [] U (call us last) e fits lies = absurd (omega arith)
+    go ars B es θ m (v ∷ vs) U (call us last) e fits lies = absurd (omega arith)
+
+pub stops-call : {book cert w after : List ℕ} {right i count call-at at : ℕ} {r : Found} → i ≢ 0
+    → Parts book cert right 1 count (i - 1) call-at at w after r → Stops book cert right i count call-at at w after r
+unfolding stops stop-number StopFits stop-fields
+stops-call {book} {cert} {w} {after} {right} {i} {count} {call-at} {at} {r} ne p = record { told = go; below = p .below }
+  where
+    go : (ars : List ℕ) (B : Book Exp) (es : List (Claim Exp)) (θ : Fills Exp) (m : Mark Exp) (vs : List Pattern)
+        → Unfolding book cert w ars B es θ right m call-at vs 1 count → (s : Stop Exp Pair) → stop-number s ≡ i → StopFits ars (length es) (length vs) s
+        → Lies cert at (stop-fields s) → Finds (stops one es θ vs s m) (at + width (stop-fields s)) r
+    go ars B es θ m [] U fact e fits lies = absurd (ne (sym e))
+    go ars B es θ m (v ∷ vs) U fact e fits lies = absurd (ne (sym e))
+    go ars B es θ m [] U (call us last) e fits lies = absurd (omega (arith, fits .0))
+    go ars B es θ m (v ∷ vs) U (call us last) e fits lies =
+        p .told ars B es θ m (v ∷ vs) U us last (omega arith) (omega (arith, fits .0)) (fits .1) (fits .2) lies
+
+-- ---- a rule's head and calls
+
+module _ {book ars : List ℕ} {at : ℕ} {c : Read} {u : Rule Exp} (t : Takes book 4 at c) (R : RuleAt book ars at u) where
+  terms-lie : Lies book (c .at) (term-fields (u .head) ++ flatMap term-fields (u .calls))
+  unfolding rule-fields
+  terms-lie = rest-at t (R .lies)
+
+  pub head-lies : Lies book (c .at) (term-fields (u .head))
+  head-lies = lies-front book (c .at) (term-fields (u .head)) (flatMap term-fields (u .calls)) terms-lie
+
+  pub calls-at : {next : ℕ} → next ≡ behind (c .at) (u .head) → CallsAt book ars next (u .calls) 1 (c .value)
+  unfolding rule-fields
+  calls-at q =
+      let n : c .value ≡ length (u .calls) = t .told (length (u .calls)) _ (R .lies) .0 in
+      record {
+        lies = subst (λ j. Lies book j (flatMap term-fields (u .calls))) (sym q)
+            (lies-back book (c .at) (term-fields (u .head)) (flatMap term-fields (u .calls)) terms-lie);
+        fits = R .fits .calls;
+        counted = omega arith;
+        first = omega arith;
+        few = omega (arith, R .fits .count);
+      }
+
+-- ---- the whole unfold
+
+module _ {book cert w v : List ℕ} {left : ℕ} (k : ℕ) {at : ℕ} {c : Read} {r : Found} (a : at ≡ getD w k 0) (t : Takes book 4 at c) (head : Checks book cert Unfold 0 (Call (c .at)) (Plain left 1 0) w v r) where
+  rule-at : {ars : List ℕ} {B : Book Exp} {es : List (Claim Exp)} {θ : Fills Exp} → Scene book cert w ars B es θ → {u : Rule Exp} → getElem? B k ≡ some u
+      → RuleAt book ars at u
+  rule-at {ars} S {u} e = subst (λ j. RuleAt book ars j u) (sym a) (S .known .rule k u e)
+
+  head-found : {ars : List ℕ} {B : Book Exp} {es : List (Claim Exp)} {θ : Fills Exp} → Scene book cert w ars B es θ → {t : Pattern} → LeftAt cert ars left t
+      → {u : Rule Exp} → getElem? B k ≡ some u → Finds (compare 9 0 (some (fill (by θ) (u .head))) (some t)) (behind (c .at) (u .head)) r
+  unfolding number-at
+  head-found S L e = head .told _ _ (call-means S (rule-at S e .fits .head) (head-lies t (rule-at S e))) _ _ (left-itself (S .known) L)
+
+  pub unfolds-fault : {right i end n p : ℕ} → r ≡ Fault n p → UnfoldsBy book cert left right k i end w v (Fault n p)
+  unfolding line-checks
+  unfolds-fault q = record {
+    told = λ ars B es θ S l L R u e s z fits lies. finds-given _ e (finds-stop _ (head-found S L e) q);
+    below = below-less (omega arith) (head .below);
+  }
+
+  pub unfolds-on : {right i end x : ℕ} {after : List ℕ} {s : Found} → r ≡ Good x → Stops book cert right i (c .value) x end v after s
+      → UnfoldsBy book cert left right k i end w after s
+  unfolding line-checks
+  unfolds-on q p = record {
+    told = λ ars B es θ S l L R u e s z fits lies.
+        finds-given _ e (finds-then (head-found S L e) q
+        (λ y. p .told ars B es θ (l .right) (u .calls)
+        (record { scene = scene-below (below-less (omega arith) (head .below)) S; right-at = R; calls-at = calls-at t (rule-at S e) y }) s z fits lies));
+    below = below-then (below-less (omega arith) (head .below)) (p .below);
+  }
+
+-- ---- the rule that a line names
+
+pub record NamedRule (B : Book Exp) (k m : ℕ) : Type 0 where
+  pub rule : Rule Exp
+  pub found : getElem? B k ≡ some rule
+  pub calls : length (rule .calls) ≡ m
+
+pub named-rule : (B : Book Exp) (k m : ℕ) → getElem? (call-counts B) k ≡ some m → NamedRule B k m
+unfolding call-counts
+named-rule [] k m e = let z : _≡_ {A = ℕ} 0 1 = cc in absurd (omega arith)
+named-rule (r ∷ B) zero m e = record { rule = r; found = refl; calls = Option·some-injective _ _ e }
+named-rule (r ∷ B) (suc k) m e = let n = named-rule B k m e in record { rule = n .rule; found = n .found; calls = n .calls }
+
+-- ---- an unfold behind its claim
+
+pub unfold-at : {book cert w v after : List ℕ} {left right at uses : ℕ} {c d : Read} {r : Found} → Takes cert 8 at c → Takes cert 4 (c .at) d
+    → Lists book cert 832 (d .at) w v uses → UnfoldsBy book cert left right (c .value) (d .value) uses v after r → UnfoldAt book cert left right at w after r
+unfolding kind-fields KindFits width
+unfold-at {book} {cert} {w} {v} {after} {left} {right} {at} {uses} {c} {d} {r} tc td f p = record {
+  told = λ ars B es known l L R k θ s fits lies.
+      let x = tc .told k _ lies in
+      let y = td .told (stop-number s) _ (rest-at tc lies) in
+      let both = rest-at td (rest-at tc lies) in
+      let g = f .told ars (known .arity) θ (fits .2) (lies-front cert (d .at) (filling-fields θ) (stop-fields s) both) in
+      let n = named-rule B k (fits .0) (fits .1) in
+      let scene : Scene book cert v ars B es θ = record { known = known-below (kept-below (f .kept)) known; own = g .0 } in
+      let stop = subst (λ j. Lies cert j (stop-fields s)) (sym (g .1)) (lies-back cert (d .at) (filling-fields θ) (stop-fields s) both) in
+      finds-ending (omega (arith, x .1, y .1, g .1, width-append (filling-fields θ) (stop-fields s)))
+      (subst (λ j. Finds (line-checks one es B l (unfolds j θ s)) (uses + width (stop-fields s)) r) (x .0)
+      (p .told ars B es θ scene l L R (n .rule) (subst (λ j. getElem? B j ≡ some (n .rule)) (sym (x .0)) (n .found)) s (sym (y .0))
+      (subst (λ j. StopFits ars (length es) j s) (sym (n .calls)) (fits .3)) stop));
+  below = below-then (kept-below (f .kept)) (below-less (omega arith) (p .below));
+}

@@ -1,0 +1,57 @@
+-- The judge's answer, one layer after the other: the work table, the lengths of both files, their layout, the checks.
+use Prim.Native.Nat.{ℕ, _≤_, _<_}
+use mathlib.Core.Path.{_≡_}
+use mathlib.Core.List.{List}
+use borrow.Author.Tests.{lt-ltb, le-ltb}
+use lib.ListN.{length}
+use Rattle.patterns.specs.Certificate.{Certificate}
+use Rattle.patterns.specs.Refusal.{Refusal, book-place, certificate-place, neither-place}
+use Rattle.patterns.specs.Judge.{refuse, judge}
+use Rattle.patterns.specs.First.{Exp, Pair, Pace, one}
+use Rattle.grammar.specs.Books.{RuleBook}
+use Rattle.layout.specs.Files.{good, bad, refusal-at, open-book, open-certificate}
+use Rattle.verdicts.specs.Judging.{judging-certificate, judging-files, judging}
+
+module _ (book certificate : List ℕ) where
+  -- ---- the work table
+
+  pub table-short : (size : ℕ) → size < 8192 → judging book certificate size ≡ refuse (refusal-at 1 neither-place 0)
+  unfolding judging
+  table-short size h = rw (lt-ltb size 8192 h)
+
+  pub table-enough : (size : ℕ) → 8192 ≤ size → judging book certificate size ≡ judging-files book certificate
+  unfolding judging
+  table-enough size h = rw (le-ltb size 8192 h)
+
+  -- ---- the lengths
+
+  pub book-long : 16384 < length book → judging-files book certificate ≡ refuse (refusal-at 2 book-place 0)
+  unfolding judging-files
+  book-long h = rw (lt-ltb 16384 (length book) h)
+
+  pub certificate-long : length book ≤ 16384 → 32768 < length certificate
+      → judging-files book certificate ≡ refuse (refusal-at 2 certificate-place 0)
+  unfolding judging-files
+  certificate-long n h = rw (le-ltb 16384 (length book) n, lt-ltb 32768 (length certificate) h)
+
+  pub both-short : length book ≤ 16384 → length certificate ≤ 32768
+      → judging-files book certificate ≡ judging-certificate book certificate
+  unfolding judging-files
+  both-short n m = rw (le-ltb 16384 (length book) n, le-ltb 32768 (length certificate) m)
+
+  -- ---- the layout
+
+  pub book-refused : (r : Refusal) → open-book book ≡ bad r → judging-certificate book certificate ≡ refuse r
+  unfolding judging-certificate
+  book-refused r e = rw e
+
+  module _ (b : RuleBook) (fs : List (ℕ × ℕ)) (opened : open-book book ≡ good b fs) where
+    pub certificate-refused : (r : Refusal) → open-certificate b certificate ≡ bad r
+        → judging-certificate book certificate ≡ refuse r
+    unfolding judging-certificate
+    certificate-refused r e = rw (opened, e)
+
+    pub both-opened : (K : Certificate Exp Pair Pace) (gs : List (ℕ × ℕ)) → open-certificate b certificate ≡ good K gs
+        → judging-certificate book certificate ≡ judge one (b .rules) K
+    unfolding judging-certificate
+    both-opened K gs e = rw (opened, e)

@@ -1,0 +1,55 @@
+-- `verdicts::place_number` meets its contract: a number for each place.
+use Rattle.layout.specs.Answers.{w-of}
+use borrow.Author.Needs.{needs}
+use Rattle.verdicts.proofs.place_number.Statement.{statement}
+use Rattle.verdicts.proofs.place_number.Tie as tie
+
+enum-told : tie.Need-enum-told
+enum-told c = search needs
+
+enum-told-2 : tie.Need-enum-told-2
+enum-told-2 c = search needs
+
+enum-told-3 : tie.Need-enum-told-3
+enum-told-3 c = search needs
+
+enum-told-4 : tie.Need-enum-told-4
+enum-told-4 c = search needs
+
+enum-told-5 : tie.Need-enum-told-5
+enum-told-5 c = search needs
+
+returns : tie.Need-returns
+unfolding w-of
+returns c = search needs
+
+returns-2 : tie.Need-returns-2
+unfolding w-of
+returns-2 c = search needs
+
+returns-3 : tie.Need-returns-3
+unfolding w-of
+returns-3 c = search needs
+
+returns-4 : tie.Need-returns-4
+unfolding w-of
+returns-4 c = search needs
+
+returns-5 : tie.Need-returns-5
+unfolding w-of
+returns-5 c = search needs
+
+pub place-number-spec : {M : Type 1} → statement M
+place-number-spec =
+    tie.close
+    (tie.spec
+    enum-told
+    enum-told-2
+    enum-told-3
+    enum-told-4
+    enum-told-5
+    returns
+    returns-2
+    returns-3
+    returns-4
+    returns-5)

@@ -1,0 +1,39 @@
+-- What the judge answers for a book and a certificate in bytes, and what it leaves in the work table. 01, "Refusal numbers":
+-- "Order: 1; 2 (book first); the whole book field by field; the whole certificate; then lines from 0 up; then closing."
+use Prim.Native.Nat.{ℕ}
+use mathlib.Core.List.{List}
+use mathlib.Core.Bool.{cond}
+use lib.ListN.{length, replicate}
+use lib.Dec.{ltb}
+use Rattle.patterns.specs.Refusal.{book-place, certificate-place, neither-place}
+use Rattle.patterns.specs.First.{Pace, one}
+use Rattle.patterns.specs.Judge.{Verdict, refuse, judge}
+use Rattle.layout.specs.Files.{Opened, good, bad, refusal-at, open-book, open-certificate}
+
+-- 01, 2: "rule book over 16,384 bytes or certificate over 32,768"
+abbrev pub within : ℕ → ℕ → List ℕ → Verdict Pace → Verdict Pace
+within w most s rest = cond (ltb most (length s)) (refuse (refusal-at 2 w 0)) rest
+
+-- a file's own refusal, or what its tree leads to
+abbrev pub where-good : {A : Type 0} → Opened A → (A → Verdict Pace) → Verdict Pace
+where-good (good a fs) rest = rest a
+where-good (bad r) rest = refuse r
+
+-- the whole book, then the whole certificate beside it, then its lines and its closing
+unfoldable pub judging-certificate : List ℕ → List ℕ → Verdict Pace
+judging-certificate book certificate =
+    where-good (open-book book) λ b. where-good (open-certificate b certificate) λ K. judge one (b .rules) K
+
+-- all but refusal 1
+unfoldable pub judging-files : List ℕ → List ℕ → Verdict Pace
+judging-files book certificate =
+    within book-place 16384 book (within certificate-place 32768 certificate (judging-certificate book certificate))
+
+-- 01, 1: "the work table has fewer than 8,192 64-bit numbers"; `size` is how many it has
+unfoldable pub judging : List ℕ → List ℕ → ℕ → Verdict Pace
+judging book certificate size =
+    cond (ltb size 8192) (refuse (refusal-at 1 neither-place 0)) (judging-files book certificate)
+
+-- 01: "The work table is all zeros after every call but refusal 1, which doesn't touch it."
+unfoldable pub work-after : List ℕ → List ℕ
+work-after work = cond (ltb (length work) 8192) work (replicate (length work) 0)

@@ -1,0 +1,39 @@
+-- The line that the program prints, what is answered for it, and bytes put at a place.
+use Prim.Native.Nat.{ℕ, _+_}
+use mathlib.Core.List.{List, [], _∷_, _++_}
+use mathlib.Core.Bool.{cond}
+use lib.ListN.{length, take, drop}
+use lib.Dec.{ltb}
+use Rattle.patterns.specs.First.{Pace}
+use Rattle.patterns.specs.Judge.{Verdict, accept, refuse}
+use Rattle.verdicts.specs.Decimal.{decimal}
+
+-- "accept"
+unfoldable pub accept-word : List ℕ
+accept-word = 97 ∷ 99 ∷ 99 ∷ 101 ∷ 112 ∷ 116 ∷ []
+
+-- "refuse"
+unfoldable pub refuse-word : List ℕ
+refuse-word = 114 ∷ 101 ∷ 102 ∷ 117 ∷ 115 ∷ 101 ∷ []
+
+-- 01: "in decimal with single spaces": a space and then a number, for each
+unfoldable pub spaced : List ℕ → List ℕ
+spaced [] = []
+spaced (n ∷ ns) = (32 ∷ decimal n) ++ spaced ns
+
+-- a word, numbers, and the newline
+unfoldable pub sentence : List ℕ → List ℕ → List ℕ
+sentence word ns = word ++ (spaced ns ++ (10 ∷ []))
+
+-- 01: "It prints one line: `accept` line k α, or `refuse` number W A B"
+unfoldable pub line-of : Verdict Pace → List ℕ
+line-of (accept l p) = sentence accept-word (l ∷ p .k ∷ p .α ∷ [])
+line-of (refuse r) = sentence refuse-word (r .number ∷ r .w ∷ r .a ∷ r .b ∷ [])
+
+-- the length of a line that is written; 0 if it does not fit, and then nothing is written
+unfoldable pub written-length : List ℕ → ℕ → ℕ
+written-length l room = cond (ltb room (length l)) 0 (length l)
+
+-- bytes put at a place, the rest kept
+unfoldable pub put : List ℕ → ℕ → List ℕ → List ℕ
+put out at l = take at out ++ (l ++ drop (at + length l) out)

@@ -1,0 +1,145 @@
+//! The comparison as a program. It prints how many inputs met each refusal number,
+//! place and part, and closes with 'N passed, 0 failed', one for each that was met;
+//! it fails at the first difference, and if one was never met.
+
+use compare::answers::answers_of_length;
+use compare::coverage::{wanted_of_files, wanted_of_judging, wanted_of_the_program, Coverage};
+use compare::files::perform_both;
+use compare::follow::Followed;
+use compare::judging::{files_of, judge_both};
+use compare::program::run_both;
+use compare::proved::Proved;
+use compare::Compared;
+use generate::inputs::{Inputs, Kind};
+use generate::random::Random;
+use generate::writing::Tasks;
+use second::Verdict;
+use std::path::{Path, PathBuf};
+use std::process::ExitCode;
+
+const HELP: &str = "compare [--seed N] [--inputs N] [--tasks N] [--program JUDGE [--runs N]]
+    --seed      where the generator begins (1)
+    --inputs    books with certificates to be judged (20000)
+    --tasks     files to be read and lists to be written (8000)
+    --program   the program `judge`, to be run as well
+    --runs      inputs for the program (1500)";
+
+struct Options {
+    seed: u64,
+    inputs: usize,
+    tasks: usize,
+    program: Option<PathBuf>,
+    runs: usize,
+}
+
+fn options() -> Option<Options> {
+    let mut options = Options { seed: 1, inputs: 20_000, tasks: 8_000, program: None, runs: 1_500 };
+    let mut words = std::env::args().skip(1);
+    while let Some(word) = words.next() {
+        let value = words.next()?;
+        match word.as_str() {
+            "--seed" => options.seed = value.parse().ok()?,
+            "--inputs" => options.inputs = value.parse().ok()?,
+            "--tasks" => options.tasks = value.parse().ok()?,
+            "--program" => options.program = Some(PathBuf::from(value)),
+            "--runs" => options.runs = value.parse().ok()?,
+            _ => return None,
+        }
+    }
+    Some(options)
+}
+
+fn main() -> ExitCode {
+    let Some(options) = options() else {
+        eprintln!("{HELP}");
+        return ExitCode::from(2);
+    };
+    match compared(&options) {
+        Ok(passed) => {
+            println!("{passed} passed, 0 failed");
+            ExitCode::SUCCESS
+        }
+        Err(fault) => {
+            println!("compare: {fault}");
+            ExitCode::FAILURE
+        }
+    }
+}
+
+/// How many of the wanted answers were met, if all were, with no difference.
+fn compared(options: &Options) -> Compared<usize> {
+    let mut coverage = Coverage::default();
+    let mut wanted = [wanted_of_judging(), wanted_of_files()].concat();
+    let followed = judgings(options, &mut coverage)?;
+    readings_and_writings(options, &mut coverage)?;
+    if let Some(program) = &options.program {
+        runs(program, options, &mut coverage)?;
+        wanted.extend(wanted_of_the_program());
+    }
+    let (met, missing) = coverage.report(&wanted);
+    let Followed { derivations, steps, rounds, too_large } = followed;
+    println!(
+        "followed: {derivations} derivations of accepted certificates, {steps} steps, \
+         {rounds} rounds; {too_large} too large to begin"
+    );
+    match missing.is_empty() {
+        true => Ok(met),
+        false => Err(format!("never met: {}", missing.join("; "))),
+    }
+}
+
+fn judgings(options: &Options, coverage: &mut Coverage) -> Compared<Followed> {
+    let mut inputs = Inputs::new(options.seed);
+    let mut random = Random::new(!options.seed);
+    let mut followed = Followed::default();
+    for number in 0..options.inputs {
+        let input = inputs.next_input();
+        let (book, certificate) = files_of(&input);
+        let one = judge_both(&Proved, book, certificate, &mut random).and_then(|verdict| {
+            coverage.judged(book, certificate, &verdict);
+            if let Verdict::Accepted { .. } = verdict {
+                followed.follow(book, certificate, &mut random)?;
+            }
+            match number % 100 {
+                0 => answers_of_length(number / 100 % 8, book, certificate, &mut random),
+                _ => Ok(()),
+            }
+        });
+        one.map_err(|fault| numbered("input", number, options.seed, &fault))?;
+    }
+    Ok(followed)
+}
+
+fn readings_and_writings(options: &Options, coverage: &mut Coverage) -> Compared<()> {
+    let mut tasks = Tasks::new(options.seed);
+    let mut random = Random::new(!options.seed);
+    for number in 0..options.tasks {
+        let task = tasks.next_task();
+        let answer = perform_both(&Proved, &task, &mut random)
+            .map_err(|fault| numbered("task", number, options.seed, &fault))?;
+        coverage.performed(&task, &answer);
+    }
+    Ok(())
+}
+
+/// Runs the program on every input of a damaged frame and on some of the others.
+fn runs(program: &Path, options: &Options, coverage: &mut Coverage) -> Compared<()> {
+    let mut inputs = Inputs::new(options.seed);
+    for number in 0..options.runs {
+        let mut input = inputs.next_input();
+        if number % 50 == 0 {
+            let most = second::judging::INPUT_BYTES;
+            input.framed.resize(most + number / 50 % 3, 0);
+        } else if number % 10 == 0 && input.kind == Kind::Frame {
+            input.framed.truncate(number / 10 % 3);
+        }
+        let verdict = run_both(program, &input.framed)
+            .map_err(|fault| numbered("run", number, options.seed, &fault))?;
+        coverage.run(&verdict);
+    }
+    Ok(())
+}
+
+fn numbered(what: &str, number: usize, seed: u64, fault: &str) -> String {
+    format!("{what} {number} of seed {seed}\n{fault}")
+}

@@ -1,0 +1,91 @@
+//! The comparison notices wrong sides.
+
+use compare::files::perform_both;
+use compare::judging::judge_both;
+use compare::proved::{Proved, Side};
+use generate::random::Random;
+use generate::writing::Task;
+use second::{Answer, Verdict};
+
+const BOOK: [u8; 6] = [0x01, 0x00, 0x11, 0x40, 0x10, 0x00];
+const CERTIFICATE: [u8; 12] = [0x01, 0x20, 0x14, 0, 0, 0x40, 0, 0, 0, 0, 0, 0];
+
+/// The proved side with one thing wrong.
+enum Wrong {
+    Alpha,
+    WorkLeft,
+    WorkTouched,
+    OutputTouched,
+}
+
+impl Side for Wrong {
+    fn judge(&self, book: &[u8], certificate: &[u8], work: &mut [u64]) -> Verdict {
+        let verdict = Proved.judge(book, certificate, work);
+        match (self, verdict, work.last_mut()) {
+            (Wrong::Alpha, Verdict::Accepted { line, k, .. }, _) => {
+                return Verdict::Accepted { line, k, alpha: 1 }
+            }
+            (Wrong::WorkLeft, Verdict::Accepted { .. }, Some(last)) => *last = 1,
+            (Wrong::WorkTouched, Verdict::Refused(_), Some(last)) => *last ^= 1,
+            _ => (),
+        }
+        verdict
+    }
+
+    fn read_book(&self, book: &[u8], out: &mut [u16]) -> Answer {
+        let answer = Proved.read_book(book, out);
+        if let (Wrong::OutputTouched, Some(last)) = (self, out.last_mut()) {
+            *last ^= 1;
+        }
+        answer
+    }
+
+    fn read_certificate(&self, book: &[u8], certificate: &[u8], out: &mut [u16]) -> Answer {
+        Proved.read_certificate(book, certificate, out)
+    }
+
+    fn write_book(&self, fields: &[u16], out: &mut [u8]) -> Answer {
+        Proved.write_book(fields, out)
+    }
+
+    fn write_certificate(&self, book: &[u8], fields: &[u16], out: &mut [u8]) -> Answer {
+        Proved.write_certificate(book, fields, out)
+    }
+}
+
+/// How many of some judgings of this pair show a difference.
+fn differences(side: &impl Side) -> usize {
+    let mut random = Random::new(1);
+    (0..500).filter(|_| judge_both(side, &BOOK, &CERTIFICATE, &mut random).is_err()).count()
+}
+
+#[test]
+fn nothing_is_found_in_the_proved_side() {
+    assert_eq!(differences(&Proved), 0);
+}
+
+#[test]
+fn a_wrong_verdict_is_found() {
+    assert!(differences(&Wrong::Alpha) > 400);
+}
+
+#[test]
+fn a_number_left_in_the_work_table_is_found() {
+    assert!(differences(&Wrong::WorkLeft) > 400);
+}
+
+#[test]
+fn a_short_work_table_that_was_touched_is_found() {
+    let found = differences(&Wrong::WorkTouched);
+    assert!(found > 0 && found < 100, "{found}");
+}
+
+#[test]
+fn an_output_that_was_touched_is_found() {
+    let mut random = Random::new(1);
+    for room in [1, 7, 9] {
+        let task = Task::ReadBook { book: BOOK.to_vec(), room };
+        assert!(perform_both(&Wrong::OutputTouched, &task, &mut random).is_err());
+        assert!(perform_both(&Proved, &task, &mut random).is_ok());
+    }
+}

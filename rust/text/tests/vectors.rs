@@ -1,0 +1,186 @@
+//! The vectors of data/: what they meet, that the accepted ones run, and that they
+//! are packed as they stand.
+
+use second::derive::{derive, replay, Limits};
+use second::files::parse_both;
+use second::replay::PlainFilling;
+use std::collections::BTreeSet;
+use std::path::{Path, PathBuf};
+use text::vectors::{expected_output, pack_vectors, parse_vectors, File, Operation, Vector};
+
+fn top() -> PathBuf {
+    Path::new(env!("CARGO_MANIFEST_DIR")).join("../..")
+}
+
+/// All vectors, the files in the order of their names.
+fn vectors() -> Vec<Vector> {
+    let folder = std::fs::read_dir(top().join("data")).unwrap();
+    let mut files: Vec<PathBuf> = folder.map(|entry| entry.unwrap().path()).collect();
+    files.sort();
+    let vectors_of = |file: &PathBuf| {
+        let text = std::fs::read_to_string(file).unwrap();
+        parse_vectors(&text).unwrap_or_else(|error| panic!("{}:{error}", file.display()))
+    };
+    files
+        .iter()
+        .filter(|file| file.extension().is_some_and(|e| e == "txt"))
+        .flat_map(vectors_of)
+        .collect()
+}
+
+#[test]
+fn they_are_packed_as_they_stand() {
+    let vectors = vectors();
+    let stored = |name: &str| std::fs::read(top().join("crates/cases").join(name)).unwrap();
+    let again = "pack them again: docs/TEXT.md, Vectors";
+    assert!(pack_vectors(&vectors) == stored("stdin"), "{again}");
+    assert!(expected_output(&vectors).into_bytes() == stored("stdout"), "{again}");
+}
+
+#[test]
+fn names_differ() {
+    let vectors = vectors();
+    let names: BTreeSet<&str> = vectors.iter().map(|vector| vector.name.as_str()).collect();
+    assert_eq!(names.len(), vectors.len());
+}
+
+/// The words of an answer that say where it stands: `refuse` number W, and B from 9
+/// on.
+fn met() -> BTreeSet<String> {
+    let kind = |operation| match operation {
+        Operation::Judge => "judge",
+        Operation::Input => "input",
+        Operation::ReadBook => "read-book",
+        Operation::ReadCertificate => "read-certificate",
+        Operation::WriteBook => "write-book",
+        Operation::WriteCertificate => "write-certificate",
+    };
+    let place = |vector: &Vector| {
+        let words: Vec<&str> = vector.answer.split(' ').collect();
+        match words[..] {
+            ["refuse", number, w, _, part] if number.len() > 1 || number == "9" => {
+                format!("{number} {w} {part}")
+            }
+            ["refuse", number, w, _, _] => format!("{} {number} {w}", kind(vector.operation)),
+            _ => format!("{} {}", kind(vector.operation), words[0]),
+        }
+    };
+    vectors().iter().map(place).collect()
+}
+
+#[test]
+fn every_refusal_and_part_is_met() {
+    let met = met();
+    let parts = [
+        "9 2 0", "9 2 2", "10 2 1", "10 2 2", "10 2 3", "10 2 7", "10 2 8", "11 2 1", "11 2 3",
+        "12 2 1", "12 2 15", "13 2 4", "14 3 0", "15 3 1", "16 2 0", "16 2 1", "16 2 2", "16 2 3",
+        "16 2 15", "16 3 1",
+    ];
+    let others = ["judge 1 4", "judge accept", "input 2 4", "input 3 4", "input accept"];
+    for wanted in parts.iter().chain(&others) {
+        assert!(met.contains(*wanted), "{wanted}");
+    }
+    for number in 2..=7 {
+        assert!(met.contains(&format!("write-book {number} 0")), "{number}");
+        assert!(met.contains(&format!("write-certificate {number} 1")), "{number}");
+        assert!(met.contains(&format!("read-book {number} 0")), "{number}");
+        assert!(met.contains(&format!("judge {number} 1")), "{number}");
+    }
+    for operation in ["read-book", "read-certificate", "write-book", "write-certificate"] {
+        let w = usize::from(operation.ends_with("certificate"));
+        assert!(met.contains(&format!("{operation} filled")));
+        assert!(met.contains(&format!("{operation} 8 {w}")), "{operation}");
+    }
+}
+
+/// Each accepted certificate is played from three indices.
+#[test]
+fn accepted_ones_run() {
+    let limits = Limits { steps: 500, nodes: 100_000, all_nodes: 1_000_000 };
+    let mut rounds = 0;
+    for vector in vectors() {
+        let (File::Bytes(book), File::Bytes(certificate)) = (&vector.first, &vector.second) else {
+            continue;
+        };
+        if vector.operation != Operation::Judge || !vector.answer.starts_with("accept") {
+            continue;
+        }
+        let (book, certificate) = parse_both(book, certificate).unwrap();
+        for more in [0, 1, 5] {
+            let index = certificate.closing.alpha + more;
+            let none = PlainFilling::new();
+            if let Ok(played) = derive(&book, &certificate, index, &none, limits) {
+                let name = &vector.name;
+                replay(&book, &played).unwrap_or_else(|fault| panic!("{name}: {fault:?}"));
+                rounds += played.rounds.len();
+            }
+        }
+    }
+    assert!(rounds > 5_000, "{rounds}");
+}
+
+const LOOP: &str = "define one
+    symbols a/0.
+    a :- a.
+vector v
+judge
+book one
+certificate
+    line 0: unfold a -> a by rule 0 stop 1 {} here
+    closing line 0 k 0 alpha 0 {}
+";
+
+fn error_of(text: &str) -> String {
+    parse_vectors(text).unwrap_err().to_string()
+}
+
+#[test]
+fn a_vector_is_held_to_its_answer() {
+    assert!(parse_vectors(&format!("{LOOP}answer accept 0 0 0\n")).is_ok());
+    let wrong = "10:1: v: the answer is `accept 0 0 0`, not `accept 0 1 0`";
+    assert_eq!(error_of(&format!("{LOOP}answer accept 0 1 0\n")), wrong);
+}
+
+#[test]
+fn wrong_forms_are_named() {
+    assert_eq!(error_of(LOOP), "10:1: `answer` expected for the vector v");
+    assert_eq!(error_of("judge"), "1:1: `define NAME` or `vector NAME` expected");
+    assert_eq!(error_of("  judge"), "1:1: an indented line belongs to one before it");
+    assert_eq!(error_of("vector v\nbook two\n"), "2:1: no text is called two");
+    assert_eq!(error_of("vector v\nset 1 2\n"), "2:1: a file expected before it is changed");
+    assert_eq!(error_of("vector v\nanswer accept"), "2:1: the operation is missing");
+    let book = "vector v\nread-book\nbook\n    symbols a/0.\n    a.\n";
+    assert_eq!(error_of(&format!("{book}answer filled 6")), "6:1: `room` is missing");
+    assert_eq!(error_of(&format!("{book}set 9 0\n")), "6:1: there is no such field");
+    assert_eq!(
+        error_of(&format!("{book}keep 3 bytes\nset 0 0\n")),
+        "7:1: fields cannot be changed in bytes"
+    );
+    assert_eq!(error_of(&format!("{book}add bytes 0\n")), "6:1: two digits expected for each byte");
+    assert_eq!(
+        error_of("vector v\nbook\n    symbols a/0.\n    b.\n"),
+        "4:5: `b` is neither a symbol of the table nor a variable"
+    );
+    let twice = "define d\n    symbols a/0. a. a.\nvector v\nbook d where a. is b.\n";
+    assert_eq!(error_of(twice), "4:1: `a.` stands 2 times in the text");
+}
+
+#[test]
+fn repetitions_are_written_out() {
+    let packed = |text: &str| text::pack_book_text(text).map_err(|error| error.to_string());
+    let long = "symbols s/1, r/1, c0/0, c1/0, c2/0. s(r(s(r(c2)))). c0. c1. c1. c2.";
+    let short = "symbols s/1, r/1 repeat 0 to 2 [ , c#/0 ].
+        repeat 1 to 2 [ s(r( ] c2 repeat 1 to 2 [ )) ].
+        repeat 0 to 1 [ repeat # to # [ c#. ] c#+1. ] repeat 3 to 2 [ c0. ]";
+    assert_eq!(packed(short), packed(long));
+    assert_eq!(packed("symbols a#/0."), Err("1:9: `#` stands only in a repeat".into()));
+    let open = "symbols a/0. repeat 1 to 2 [ a.";
+    assert_eq!(packed(open), Err("1:14: `]` expected for this repeat".into()));
+    let below = "symbols a/0. repeat 0 to 1 [ c#-1. ]";
+    let expected = "1:30: `#`, `#+1` or `#-1` expected, and no number below 0";
+    assert_eq!(packed(below), Err(expected.into()));
+    let endless = "symbols a/0. repeat 1 to 65535 [ repeat 1 to 65535 [ a. ] ]";
+    assert!(packed(endless).unwrap_err().ends_with("too much is repeated"));
+    // A symbol may still be called repeat.
+    assert!(packed("symbols repeat/0. repeat.").is_ok());
+}
