@@ -3,11 +3,11 @@ use Prim.Native.Nat.{ℕ}
 use mathlib.Core.Path.{_≡_, refl, sym, subst, _∙_}
 use mathlib.Core.Logic.{ite, if-pos, if-neg}
 use mathlib.Core.List.{List, [], _∷_, _++_}
-use mathlib.Core.Option.{Option, none, some}
+use mathlib.Core.Option.{none, some}
 use native.Mathlib.Omega.{arith}
 use Rattle.patterns.specs.Certificate.{Mark}
 use Rattle.patterns.specs.First.{Exp, one}
-use Rattle.patterns.specs.Demand.{Demand, small, same, Met, met?}
+use Rattle.patterns.specs.Demand.{small, same, Met, met?}
 use Rattle.patterns.specs.Judge.{Check, check, compare}
 use Rattle.checking.specs.declared.Found.{Found}
 use Rattle.checking.specs.declared.Found.the-variants.{Fault, Good}

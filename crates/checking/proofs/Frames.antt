@@ -1,6 +1,6 @@
 -- What the table tells stays where no word of it has changed.
 use Prim.Native.Nat.{ℕ, zero, suc, _+_, _≤_, _<_}
-use mathlib.Core.Path.{_≡_, refl, sym, subst, ap, _∙_}
+use mathlib.Core.Path.{_≡_, refl, sym, subst, _∙_}
 use mathlib.Core.List.{List, [], _∷_}
 use mathlib.Core.Bool.{Bool, true, false, cond}
 use mathlib.Core.Option.{some}
@@ -9,8 +9,8 @@ use borrow.Author.Tests.{ltb-true}
 use lib.ListN.{length, getD, getElem?}
 use lib.Dec.{ltb}
 use Rattle.patterns.specs.Term.{var, Filling}
-use Rattle.patterns.specs.First.{Exp, Pair, Pattern}
-use Rattle.patterns.specs.Derive.{Rule, Book}
+use Rattle.patterns.specs.First.{Exp, Pair}
+use Rattle.patterns.specs.Derive.{Book}
 use Rattle.patterns.specs.Certificate.{Fills, Claim, Use}
 use Rattle.table.specs.Sides.{Kept}
 use Rattle.checking.specs.declared.Instance.{Instance}

@@ -1,8 +1,8 @@
 -- The subjects that the checks name, and the marks that they mean.
-use Prim.Native.Nat.{ℕ, _+_}
-use mathlib.Core.Path.{_≡_, refl, sym, subst, ap, _∙_}
+use Prim.Native.Nat.{ℕ}
+use mathlib.Core.Path.{_≡_, refl, sym, subst, ap}
 use mathlib.Core.Logic.{_≢_}
-use mathlib.Core.List.{List, [], _∷_}
+use mathlib.Core.List.{List, []}
 use mathlib.Core.Option.{none, some}
 use native.Mathlib.Omega.{arith}
 use Rattle.patterns.specs.Term.{var, fill}
@@ -13,18 +13,17 @@ use Rattle.patterns.specs.First.{Exp, Pattern, Pair, one}
 use Rattle.patterns.specs.Checks.{OnMark, instance, instance-mark, reindex-mark}
 use Rattle.patterns.proofs.Term.{fill-var}
 use Rattle.grammar.specs.Listing.{if-any, term-fields}
-use Rattle.grammar.specs.Limits.{TermFits, RootFits}
+use Rattle.grammar.specs.Limits.{RootFits}
 use Rattle.checking.specs.declared.Read.{Read}
 use Rattle.checking.specs.declared.Instance.{Instance}
-use Rattle.checking.specs.declared.Subject.{Subject}
 use Rattle.checking.specs.declared.Subject.the-variants.{Empty, Call, Plain, Used}
 use Rattle.instances.specs.Lying.{Lies, behind}
 use Rattle.instances.specs.Fillings.{Fills as Tells}
 use Rattle.checking.specs.Placed.{Takes, RightAt, LeftAt}
 use Rattle.checking.specs.Known.{Known, Scene, Uses}
-use Rattle.checking.specs.Subjects.{InstanceAt, Means, PlainRight, UsedRight}
+use Rattle.checking.specs.Subjects.{Means, PlainRight, UsedRight}
 use Rattle.instances.proofs.Lying.{lies-rest}
-use Rattle.instances.proofs.Terms.{as-it-is, unfilled}
+use Rattle.instances.proofs.Terms.{as-it-is}
 use Rattle.checking.proofs.Passing.{term-at}
 use Rattle.checking.proofs.Frames.{bare-tells}
 

@@ -1,21 +1,19 @@
 -- The begins of rules noted in the table are where the rules lie.
-use Prim.Native.Nat.{ℕ, zero, suc, _+_, _-_, _*_, _≤_, _<_}
+use Prim.Native.Nat.{ℕ, zero, suc, _+_, _-_, _*_, _<_}
 use mathlib.Core.Path.{_≡_, refl, sym, subst, ap, _∙_}
 use mathlib.Core.Logic.{_≢_}
-use mathlib.Core.List.{List, [], _∷_, _++_, flatMap}
-use mathlib.Core.Option.{Option, none, some, Option·some-injective}
+use mathlib.Core.List.{List, [], _∷_, flatMap}
+use mathlib.Core.Option.{some, Option·some-injective}
 use native.Mathlib.Omega.{arith}
 use native.Mathlib.Nat.{zero-add}
 use lib.ListN.{length, getD, set, getElem?, length-set}
 use lib.Seq.{getD-set-same, getD-set-other}
 use Rattle.bits.specs.Packed.{width}
-use Rattle.bits.proofs.Groups.{width-append}
 use Rattle.patterns.specs.First.{Exp}
 use Rattle.patterns.specs.Every.{Every}
 use Rattle.patterns.specs.Derive.{Rule, Book}
-use Rattle.grammar.specs.Books.{RuleBook}
-use Rattle.grammar.specs.Listing.{Fields, arity-fields, signature-fields, rule-fields, book-fields}
-use Rattle.grammar.specs.Limits.{RuleFits, BookFits}
+use Rattle.grammar.specs.Listing.{arity-fields, signature-fields, rule-fields, book-fields}
+use Rattle.grammar.specs.Limits.{RuleFits}
 use Rattle.table.specs.Sides.{Kept}
 use Rattle.table.proofs.Sides.{kept-wider}
 use Rattle.table.proofs.Writes.{kept-self, kept-then}

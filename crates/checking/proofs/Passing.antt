@@ -1,8 +1,8 @@
 -- Terms, rules and rights are passed to the bit behind them.
-use Prim.Native.Nat.{ℕ, zero, suc, _+_, _-_, _*_, _≤_, _<_}
-use mathlib.Core.Path.{_≡_, refl, sym, subst, ap, _∙_}
+use Prim.Native.Nat.{ℕ, _+_, _-_}
+use mathlib.Core.Path.{_≡_, sym, subst}
 use mathlib.Core.Logic.{_≢_}
-use mathlib.Core.List.{List, [], _∷_, _++_, flatMap}
+use mathlib.Core.List.{List, [], _∷_, flatMap}
 use mathlib.Core.Option.{none, some}
 use native.Mathlib.Omega.{arith}
 use lib.ListN.{length}
@@ -11,15 +11,14 @@ use Rattle.bits.proofs.Groups.{width-append}
 use Rattle.patterns.specs.First.{Exp, Pattern}
 use Rattle.patterns.specs.Formed.{Formed}
 use Rattle.patterns.specs.Every.{Every}
-use Rattle.patterns.specs.Derive.{Rule}
 use Rattle.patterns.specs.Certificate.{Mark}
 use Rattle.patterns.specs.Checks.{OnMark}
-use Rattle.grammar.specs.Listing.{Fields, if-any, term-fields, rule-fields}
+use Rattle.grammar.specs.Listing.{if-any, term-fields, rule-fields}
 use Rattle.grammar.specs.Limits.{TermFits, RootFits}
 use Rattle.checking.specs.declared.Read.{Read}
 use Rattle.instances.specs.Lying.{Lies, TermAt}
 use Rattle.instances.specs.Instances.{Skips}
-use Rattle.checking.specs.Placed.{Takes, Known-arities, Passes, RuleAt, PassesRule, RightAt, PassesRight}
+use Rattle.checking.specs.Placed.{Takes, Known-arities, Passes, PassesRule, RightAt, PassesRight}
 use Rattle.instances.proofs.Lying.{lies-rest, lies-front, lies-back}
 
 -- a term within the limits keeps to the arities that the book's bytes tell

@@ -1,49 +1,34 @@
 -- What a subject means is built and compared; and which marks the subjects of rights mean.
-use Prim.Native.Nat.{ℕ, _+_, _≤_, _<_}
-use mathlib.Core.Path.{_≡_, refl, sym, subst, ap, _∙_}
-use mathlib.Core.Logic.{_≢_}
+use Prim.Native.Nat.{ℕ, _+_, _≤_}
+use mathlib.Core.Path.{_≡_, sym, subst}
 use mathlib.Core.Bool.{Bool, true, false}
-use mathlib.Core.List.{List, [], _∷_}
-use mathlib.Core.Option.{none, some}
+use mathlib.Core.List.{List}
 use native.Mathlib.Omega.{arith}
 use lib.ListN.{length}
-use Rattle.patterns.specs.Term.{var, fill}
-use Rattle.patterns.specs.Edition.{reindex}
 use Rattle.patterns.specs.Formed.{Formed}
-use Rattle.patterns.specs.Derive.{Book}
-use Rattle.patterns.specs.Certificate.{Fills, by, Mark, Use, Claim}
-use Rattle.patterns.specs.First.{Exp, Pattern, Pair, one as edition}
-use Rattle.patterns.specs.Checks.{OnMark, instance, instance-mark, reindex-mark}
-use Rattle.patterns.specs.Demand.{small, same, Met}
-use Rattle.patterns.proofs.Term.{fill-var}
-use Rattle.bits.specs.Packed.{width}
-use Rattle.grammar.specs.Listing.{if-any, term-fields}
-use Rattle.grammar.specs.Limits.{TermFits, RootFits}
+use Rattle.patterns.specs.Certificate.{Mark}
+use Rattle.patterns.specs.First.{Exp, one as edition}
+use Rattle.patterns.specs.Checks.{OnMark}
+use Rattle.patterns.specs.Demand.{same, Met}
 use Rattle.table.specs.Nodes.{side}
-use Rattle.table.specs.Sides.{Kept, Room}
+use Rattle.table.specs.Sides.{Room}
 use Rattle.table.specs.Marks.{Built}
 use Rattle.table.specs.Answer.{Says}
 use Rattle.table.specs.declared.Pushed.the-variants.{Count, NoRoom}
 use Rattle.table.proofs.Writes.{kept-self}
 use Rattle.table.proofs.Sides.{before}
 use Rattle.table.proofs.Marks.{built-empty, built-apart, built-small, built-large, sides-settle}
-use Rattle.checking.specs.declared.Read.{Read}
 use Rattle.checking.specs.declared.Subject.{Subject}
 use Rattle.checking.specs.declared.Subject.the-variants.{Empty, Call, Plain, Used}
-use Rattle.checking.specs.declared.Compared.{Compared}
 use Rattle.checking.specs.declared.Compared.the-variants.{Equal, Unequal, TooBig}
 use Rattle.instances.specs.declared.Side.{Side}
 use Rattle.instances.specs.declared.Side.the-variants.{Done, Full}
-use Rattle.instances.specs.Lying.{Lies, TermAt, arities, behind}
-use Rattle.instances.specs.Fillings.{Fills as Tells}
+use Rattle.instances.specs.Lying.{arities, behind}
 use Rattle.instances.specs.Instances.{Stored, Few, Builds}
-use Rattle.checking.specs.Placed.{Takes, Known-arities, RightAt, LeftAt}
-use Rattle.checking.specs.Known.{Below, Known, Scene}
-use Rattle.checking.specs.Subjects.{InstanceAt, Means, Sided, Settles, Compares, PlainRight, UsedRight}
-use Rattle.instances.proofs.Lying.{lies-rest}
-use Rattle.instances.proofs.Terms.{as-it-is, unfilled, formed-instance}
-use Rattle.checking.proofs.Passing.{term-at}
-use Rattle.checking.proofs.Frames.{below-then, below-less, kept-below, tells-below, bare-tells}
+use Rattle.checking.specs.Known.{Below}
+use Rattle.checking.specs.Subjects.{InstanceAt, Means, Sided, Settles, Compares}
+use Rattle.instances.proofs.Terms.{formed-instance}
+use Rattle.checking.proofs.Frames.{below-then, below-less, kept-below, tells-below}
 
 -- ---- what is meant
 

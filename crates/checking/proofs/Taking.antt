@@ -1,16 +1,15 @@
 -- Fields taken one after the other are those that lie there.
-use Prim.Native.Nat.{ℕ, zero, suc, _+_, _^_, _≤_, _<_}
-use mathlib.Core.Path.{_≡_, sym, subst, _∙_}
-use mathlib.Core.List.{List, _∷_}
+use Prim.Native.Nat.{ℕ, zero, suc, _^_, _≤_, _<_}
+use mathlib.Core.Path.{_≡_, sym, _∙_}
+use mathlib.Core.List.{List}
 use native.Mathlib.Omega.{arith}
-use Rattle.bits.specs.Bits.{bitsAt, readField}
+use Rattle.bits.specs.Bits.{readField}
 use Rattle.bits.specs.declared.Cursor.{Cursor}
 use Rattle.bits.specs.declared.Field.{Field}
 use Rattle.bits.specs.declared.Field.the-variants.{Got, Past}
 use Rattle.bits.proofs.Bytes.{bits-lt}
 use Rattle.bits.proofs.Fitting.{read-got}
 use Rattle.grammar.specs.Listing.{Fields}
-use Rattle.instances.specs.Lying.{Lies}
 use Rattle.checking.specs.Placed.{Takes}
 use Rattle.instances.proofs.Lying.{lies-first}
 

@@ -1,22 +1,19 @@
 -- A use that was read is the one that lies there.
 use Prim.Native.Nat.{ℕ, _+_}
-use mathlib.Core.Path.{_≡_, refl, sym, subst, ap, _∙_}
+use mathlib.Core.Path.{_≡_, sym, subst, ap, _∙_}
 use mathlib.Core.List.{List, _∷_}
 use mathlib.Core.Option.{some}
 use native.Mathlib.Omega.{arith}
-use lib.ListN.{getD, getElem?}
+use lib.ListN.{getD}
 use Rattle.bits.specs.Packed.{width}
 use Rattle.patterns.specs.First.{Exp, Pair}
-use Rattle.patterns.specs.Derive.{Book}
-use Rattle.patterns.specs.Certificate.{by, Claim, Use}
-use Rattle.grammar.specs.Listing.{use-fields, filling-fields}
-use Rattle.grammar.specs.Limits.{UseFits}
+use Rattle.patterns.specs.Certificate.{Claim, Use}
+use Rattle.grammar.specs.Listing.{use-fields}
 use Rattle.checking.specs.declared.Read.{Read}
-use Rattle.checking.specs.declared.Instance.{Instance}
 use Rattle.instances.specs.Lying.{Lies}
 use Rattle.fillings.specs.Listings.{Lists}
 use Rattle.checking.specs.Placed.{Takes, ClaimAt}
-use Rattle.checking.specs.Known.{Known, Uses, ReadsUse}
+use Rattle.checking.specs.Known.{ReadsUse}
 use Rattle.instances.proofs.Lying.{lies-rest}
 use Rattle.checking.proofs.Frames.{kept-below}
 

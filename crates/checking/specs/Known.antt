@@ -1,7 +1,7 @@
 -- What the work table tells: where rules and claims lie, and which filling each of its three tables holds.
 -- Words 0 to 255: where each rule begins. 256 to 511: where each line's left begins; 512 to 767: its right. 768 to 831: no filling;
 -- 832 to 895: the line's own filling; 896 to 959: a use's. The sides of a comparison stand from 1,024 and from 4,096 on.
-use Prim.Native.Nat.{ℕ, _+_, _≤_, _<_}
+use Prim.Native.Nat.{ℕ, _+_, _<_}
 use mathlib.Core.Path.{_≡_}
 use mathlib.Core.List.{List}
 use mathlib.Core.Option.{some}
@@ -10,8 +10,8 @@ use Rattle.patterns.specs.First.{Exp, Pair}
 use Rattle.patterns.specs.Derive.{Rule, Book}
 use Rattle.patterns.specs.Certificate.{Fills, by, Claim, Use}
 use Rattle.bits.specs.Packed.{width}
-use Rattle.grammar.specs.Listing.{use-fields, filling-fields}
-use Rattle.grammar.specs.Limits.{FillsFit, UseFits}
+use Rattle.grammar.specs.Listing.{use-fields}
+use Rattle.grammar.specs.Limits.{UseFits}
 use Rattle.checking.specs.declared.Instance.{Instance}
 use Rattle.instances.specs.Lying.{Lies}
 use Rattle.instances.specs.Fillings.{entry, Fills as Tells}

@@ -1,11 +1,10 @@
 -- Fields taken from a file, and rules and claims that lie there.
-use Prim.Native.Nat.{ℕ, _+_, _^_, _≤_, _<_}
+use Prim.Native.Nat.{ℕ, _+_, _^_, _<_}
 use mathlib.Core.Path.{_≡_}
-use mathlib.Core.List.{List, [], _∷_, flatMap}
+use mathlib.Core.List.{List, _∷_, flatMap}
 use mathlib.Core.Option.{some}
 use lib.ListN.{length, getD, getElem?}
 use Rattle.bits.specs.Packed.{width}
-use Rattle.patterns.specs.Term.{size}
 use Rattle.patterns.specs.First.{Exp, Pattern}
 use Rattle.patterns.specs.Every.{Every}
 use Rattle.patterns.specs.Derive.{Rule, Book}
@@ -13,7 +12,7 @@ use Rattle.patterns.specs.Certificate.{Mark, Claim}
 use Rattle.patterns.specs.Checks.{OnMark}
 use Rattle.grammar.specs.Books.{RuleBook, arity-in}
 use Rattle.grammar.specs.Listing.{Fields, if-any, term-fields, rule-fields, book-fields}
-use Rattle.grammar.specs.Limits.{TermFits, RootFits, RuleFits, BookFits, ClaimFits}
+use Rattle.grammar.specs.Limits.{TermFits, RootFits, RuleFits, BookFits}
 use Rattle.table.specs.Sides.{Kept}
 use Rattle.checking.specs.declared.Read.{Read}
 use Rattle.instances.specs.Lying.{Lies, arities}

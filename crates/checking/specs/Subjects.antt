@@ -1,6 +1,6 @@
 -- What is built for a comparison: the empty mark, a head or call of a rule filled by the line's own filling, a term of the certificate
 -- reindexed, or one reindexed and filled by a use's filling.
-use Prim.Native.Nat.{ℕ, _≤_}
+use Prim.Native.Nat.{ℕ}
 use mathlib.Core.Path.{_≡_}
 use mathlib.Core.List.{List}
 use mathlib.Core.Option.{none, some}

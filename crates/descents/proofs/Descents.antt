@@ -1,12 +1,12 @@
 -- The parts of a descent, from its base to its level right.
-use Prim.Native.Nat.{ℕ, zero, suc, _+_, _≤_}
+use Prim.Native.Nat.{ℕ}
 use mathlib.Core.Path.{_≡_, refl, sym, subst, ap, _∙_}
 use mathlib.Core.Logic.{_≢_}
 use mathlib.Core.Bool.{Bool, true, false}
-use mathlib.Core.List.{List, [], _∷_, _++_, map, flatMap, append-nil}
-use mathlib.Core.Option.{Option, none, some, Option·some-injective}
+use mathlib.Core.List.{List, [], _∷_, flatMap, append-nil}
+use mathlib.Core.Option.{none, some}
 use native.Mathlib.Omega.{arith}
-use lib.ListN.{length, getD, getElem?}
+use lib.ListN.{length, getD}
 use Rattle.bits.specs.Packed.{width}
 use Rattle.bits.proofs.Groups.{width-append}
 use Rattle.patterns.specs.Term.{fill, All}
@@ -14,12 +14,12 @@ use Rattle.patterns.specs.First.{Exp, Pattern, Pair, Still, one}
 use Rattle.patterns.specs.Every.{Every}
 use Rattle.patterns.specs.Edition.{reindex}
 use Rattle.patterns.specs.Derive.{Rule, Book}
-use Rattle.patterns.specs.Certificate.{Fills, by, Claim, Mark, Use, Stop, unfolds, descends}
-use Rattle.patterns.specs.Checks.{OnMark, instance, instance-mark, reindex-mark}
+use Rattle.patterns.specs.Certificate.{Fills, by, Claim, Mark, Use}
+use Rattle.patterns.specs.Checks.{OnMark, instance}
 use Rattle.patterns.specs.Demand.{Met, level}
-use Rattle.patterns.specs.Judge.{Check, check, compare, given, sole, line-checks}
-use Rattle.grammar.specs.Listing.{Fields, if-any, term-fields, rule-fields, use-fields, kind-fields, filling-fields, stop-fields, stop-number}
-use Rattle.grammar.specs.Limits.{RootFits, FillsFit, StopFits, KindFits, call-counts}
+use Rattle.patterns.specs.Judge.{check, compare, sole, line-checks}
+use Rattle.grammar.specs.Listing.{if-any, term-fields, use-fields, kind-fields, filling-fields}
+use Rattle.grammar.specs.Limits.{RootFits, KindFits}
 use Rattle.table.specs.Answer.{Says}
 use Rattle.table.proofs.Comparing.{says-true, says-false}
 use Rattle.checking.specs.declared.Read.{Read}
@@ -32,17 +32,17 @@ use Rattle.checking.specs.declared.Subject.the-variants.{Call, Plain, Used}
 use Rattle.instances.specs.Lying.{Lies, behind}
 use Rattle.instances.specs.Instances.{Levels}
 use Rattle.fillings.specs.Listings.{Lists}
-use Rattle.checking.specs.Placed.{Takes, Known-arities, RightAt, LeftAt, RuleAt}
-use Rattle.checking.specs.Known.{Below, Known, Scene, Uses, ReadsUse}
+use Rattle.checking.specs.Placed.{Takes, Known-arities, RightAt, RuleAt}
+use Rattle.checking.specs.Known.{Below, Uses, ReadsUse}
 use Rattle.checking.specs.Subjects.{Means, PlainRight, UsedRight}
 use Rattle.checking.specs.Found.{Finds, number-at, Checks}
-use Rattle.descents.specs.Descents.{Descending, base-checks, head-checks, call-checks, descent-checks, DescentBase, HeadAt, DescentHead, DescentCall, LevelRight, DescentBy, DescentOn, DescentAt}
-use Rattle.instances.proofs.Lying.{lies-rest, lies-front, lies-back}
+use Rattle.descents.specs.Descents.{Descending, base-checks, DescentBase, HeadAt, DescentHead, DescentCall, LevelRight, DescentBy, DescentOn, DescentAt}
+use Rattle.instances.proofs.Lying.{lies-front, lies-back}
 use Rattle.checking.proofs.Passing.{term-at}
 use Rattle.checking.proofs.Using.{rest-at}
-use Rattle.checking.proofs.Frames.{below-then, below-less, below-self, kept-below, known-below, scene-below, uses-below, tells-above}
+use Rattle.checking.proofs.Frames.{below-then, below-less, kept-below, known-below, scene-below, uses-below, tells-above}
 use Rattle.checking.proofs.Meanings.{call-means, left-means, left-itself, used-means}
-use Rattle.checking.proofs.Finding.{finds-fault, finds-last, finds-stop, finds-then, finds-met, finds-unmet, finds-ending}
+use Rattle.checking.proofs.Finding.{finds-stop, finds-then, finds-met, finds-unmet, finds-ending}
 use Rattle.unfolds.proofs.Unfoldings.{named, finds-given, head-lies, calls-at, named-rule}
 
 -- ---- the parts of a descent

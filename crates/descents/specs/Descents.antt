@@ -9,7 +9,7 @@ use Rattle.patterns.specs.Term.{fill}
 use Rattle.patterns.specs.First.{Exp, Pattern, Pair, one}
 use Rattle.patterns.specs.Edition.{reindex}
 use Rattle.patterns.specs.Derive.{Rule, Book}
-use Rattle.patterns.specs.Certificate.{Fills, by, Claim, Mark, Use, Stop, unfolds, descends}
+use Rattle.patterns.specs.Certificate.{Fills, by, Claim, Mark, Use, descends}
 use Rattle.patterns.specs.Checks.{instance, instance-mark, reindex-mark}
 use Rattle.patterns.specs.Demand.{level}
 use Rattle.patterns.specs.Judge.{Check, check, compare, line-checks}

@@ -1,17 +1,16 @@
 -- A file that was opened lies in its bytes, field by field, and the verdict on two such files is that of the judge over trees.
 use Prim.Native.Nat.{ℕ, _+_, _≤_}
-use mathlib.Core.Path.{_≡_, refl, sym, subst, ap, _∙_}
+use mathlib.Core.Path.{_≡_, refl, sym, subst, _∙_}
 use mathlib.Core.Bool.{false}
 use mathlib.Core.List.{List, []}
 use native.Mathlib.Omega.{arith}
 use Rattle.bits.specs.Bits.{roomOf}
 use Rattle.bits.specs.Packed.{width, Reads}
 use Rattle.patterns.specs.Refusal.{book-place, certificate-place}
-use Rattle.patterns.specs.First.{Exp, Pair, Pace, one}
+use Rattle.patterns.specs.First.{Exp, Pair, Pace}
 use Rattle.patterns.specs.Certificate.{Certificate}
-use Rattle.patterns.specs.Judge.{refuse, judge}
-use Rattle.fields.specs.Source.{from}
-use Rattle.fields.specs.Grammar.{Grammar, trace}
+use Rattle.patterns.specs.Judge.{judge}
+use Rattle.fields.specs.Grammar.{Grammar}
 use Rattle.fields.specs.Spells.{Spells}
 use Rattle.fields.proofs.Found.{trace-reads, trace-room, trace-spells}
 use Rattle.grammar.specs.Books.{RuleBook, a-book}
@@ -31,7 +30,6 @@ use Rattle.layout.proofs.Opens.{in-bytes}
 use Rattle.layout.proofs.Answering.{opening-shut, opening-good}
 use Rattle.layout.proofs.Besides.{arities-known}
 use Rattle.instances.specs.Lying.{Lies}
-use Rattle.checking.specs.Placed.{Known-arities}
 use Rattle.lines.specs.Certificates.{JudgesLines}
 use Rattle.verdicts.specs.Verdicts.{paper}
 use Rattle.verdicts.specs.declared.Verdict.{Verdict as Ruling}

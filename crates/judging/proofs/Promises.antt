@@ -1,10 +1,9 @@
 -- What `judge` promises, over its own answer and the bytes that it was given: demand 2, demand 3, and that no other answer fits.
 use Prim.Native.Nat.{ℕ}
-use mathlib.Core.Path.{_≡_, sym, ap, _∙_}
+use mathlib.Core.Path.{_≡_, sym}
 use mathlib.Core.List.{List}
 use lib.ListN.{length}
 use Rattle.bits.specs.Bits.{Bytes}
-use Rattle.patterns.specs.Judge.{accept, refuse}
 use Rattle.layout.specs.declared.Refusal.{Refusal as Fault}
 use Rattle.layout.specs.Answers.{paper-refusal}
 use Rattle.verdicts.specs.Verdicts.{paper-pace, paper}

@@ -6,8 +6,6 @@ use mathlib.Core.Bool.{Bool, true, false, cond}
 use mathlib.Core.List.{List, [], _∷_, _++_, map, flatMap, append-nil, append-assoc}
 use mathlib.Core.Option.{Option, none, some, Option·some-injective, Option·some-ne-none}
 use native.Mathlib.Omega.{arith}
-use native.Mathlib.Nat.{zero-add}
-use borrow.Author.Tests.{ltb-true}
 use lib.Dec.{ltb}
 use lib.ListN.{length, getD, set, getElem?, length-set}
 use lib.Seq.{getD-set-same, getD-set-other}
@@ -15,16 +13,14 @@ use Rattle.bits.specs.Packed.{width}
 use Rattle.bits.proofs.Groups.{width-append}
 use Rattle.patterns.specs.Term.{fill}
 use Rattle.patterns.specs.Refusal.{line-place, closing-place}
-use Rattle.patterns.specs.First.{Exp, Pattern, Pair, Pace, one, from, to}
+use Rattle.patterns.specs.First.{Exp, Pair, Pace, one, from, to}
 use Rattle.patterns.specs.Edition.{reindex}
-use Rattle.patterns.specs.Derive.{Rule, Book}
-use Rattle.patterns.specs.Certificate.{Fills, by, Claim, Mark, Kind, unfolds, descends, Line, Closing, Certificate}
+use Rattle.patterns.specs.Derive.{Book}
+use Rattle.patterns.specs.Certificate.{by, Claim, Mark, Kind, unfolds, descends, Line, Closing}
 use Rattle.patterns.specs.Demand.{Met, met?, present}
-use Rattle.patterns.specs.Judge.{Check, check, compare, given, line-checks, loop-checks, closing-checks, Placed, place, checks-from, checks, first-unmet, Verdict, accept, refuse, verdict, judge}
-use Rattle.grammar.specs.Books.{RuleBook}
-use Rattle.grammar.specs.Listing.{Fields, if-any, term-fields, claim-fields, kind-fields, kind-number, line-fields, closing-fields, filling-fields, certificate-fields, book-fields}
-use Rattle.grammar.specs.Limits.{ClaimFits, KindFits, LinesFit, ClosingFits, call-counts, BookFits, CertificateFits}
-use Rattle.table.specs.Sides.{Kept}
+use Rattle.patterns.specs.Judge.{Check, check, compare, line-checks, loop-checks, closing-checks, Placed, place, checks-from, checks, first-unmet, accept, refuse, verdict, judge}
+use Rattle.grammar.specs.Listing.{if-any, term-fields, claim-fields, kind-fields, kind-number, line-fields, closing-fields, certificate-fields}
+use Rattle.grammar.specs.Limits.{KindFits, LinesFit, ClosingFits, call-counts}
 use Rattle.verdicts.specs.Verdicts.{paper}
 use Rattle.verdicts.specs.declared.Verdict.{Verdict as Ruling}
 use Rattle.checking.specs.declared.Read.{Read}
@@ -36,16 +32,16 @@ use Rattle.instances.specs.Lying.{Lies, behind}
 use Rattle.instances.specs.Fillings.{entry, Fills as Tells}
 use Rattle.instances.specs.Instances.{Skips}
 use Rattle.fillings.specs.Listings.{Lists, Forgets}
-use Rattle.checking.specs.Placed.{Takes, Known-arities, RightAt, LeftAt, RuleAt, ClaimAt, PassesRight, Indexes}
-use Rattle.checking.specs.Known.{Below, Known}
+use Rattle.checking.specs.Placed.{Takes, RightAt, LeftAt, RuleAt, ClaimAt, PassesRight, Indexes}
+use Rattle.checking.specs.Known.{Known}
 use Rattle.checking.specs.Found.{fault, Finds, number-at, Checks}
 use Rattle.unfolds.specs.Unfoldings.{UnfoldAt}
 use Rattle.descents.specs.Descents.{DescentAt}
 use Rattle.lines.specs.Certificates.{refusal-of, pace-of, NotesLine, KindAt, LineAt, ClosingBy, ClosingAt, LinesAt, Prepares, JudgesLines}
-use Rattle.instances.proofs.Lying.{lies-rest, lies-front, lies-back}
+use Rattle.instances.proofs.Lying.{lies-front, lies-back}
 use Rattle.checking.proofs.Passing.{term-at}
 use Rattle.checking.proofs.Using.{rest-at}
-use Rattle.checking.proofs.Frames.{below-then, below-less, kept-below, known-below, found-below, tells-below, entry-above}
+use Rattle.checking.proofs.Frames.{below-less, kept-below, known-below, found-below, entry-above}
 use Rattle.checking.proofs.Meanings.{left-means, filled-means, right-none, right-left}
 use Rattle.checking.proofs.Finding.{at-fault, at-good, finds-stop, finds-then, finds-met, finds-unmet}
 use Rattle.unfolds.proofs.Unfoldings.{named, finds-given}

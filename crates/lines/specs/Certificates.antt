@@ -1,13 +1,12 @@
 -- What the judging of a line leaves in the table, and the verdict on a closing and on all lines.
-use Prim.Native.Nat.{ℕ, _+_, _<_, _≤_}
+use Prim.Native.Nat.{ℕ, _+_, _<_}
 use mathlib.Core.Path.{_≡_}
 use mathlib.Core.List.{List, [], _∷_, _++_, map, flatMap}
-use mathlib.Core.Option.{some}
-use lib.ListN.{length, getD, getElem?}
+use lib.ListN.{length, getD}
 use Rattle.bits.specs.Packed.{width}
 use Rattle.patterns.specs.Refusal.{Refusal, closing-place}
 use Rattle.patterns.specs.First.{Exp, Pair, Pace, one}
-use Rattle.patterns.specs.Derive.{Rule, Book}
+use Rattle.patterns.specs.Derive.{Book}
 use Rattle.patterns.specs.Certificate.{by, Claim, Line, Closing, Certificate}
 use Rattle.patterns.specs.Judge.{place, line-checks, closing-checks, checks-from, first-unmet, verdict, judge}
 use Rattle.grammar.specs.Books.{RuleBook}
@@ -17,8 +16,8 @@ use Rattle.verdicts.specs.Verdicts.{paper}
 use Rattle.verdicts.specs.declared.Verdict.{Verdict as Ruling}
 use Rattle.checking.specs.declared.Found.{Found}
 use Rattle.instances.specs.Lying.{Lies}
-use Rattle.instances.specs.Fillings.{entry, Fills as Tells}
-use Rattle.checking.specs.Placed.{Known-arities, RightAt, LeftAt, RuleAt}
+use Rattle.instances.specs.Fillings.{Fills as Tells}
+use Rattle.checking.specs.Placed.{Known-arities, RightAt, LeftAt}
 use Rattle.checking.specs.Known.{Below, Known}
 use Rattle.checking.specs.Found.{Finds}
 

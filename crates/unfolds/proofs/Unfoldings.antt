@@ -2,8 +2,8 @@
 use Prim.Native.Nat.{ℕ, zero, suc, _+_, _-_, _≤_, _<_}
 use mathlib.Core.Path.{_≡_, refl, sym, subst, ap, _∙_}
 use mathlib.Core.Logic.{_≢_}
-use mathlib.Core.Bool.{Bool, true, false, cond}
-use mathlib.Core.List.{List, [], _∷_, _++_, map, flatMap, append-assoc}
+use mathlib.Core.Bool.{Bool, true, false}
+use mathlib.Core.List.{List, [], _∷_, _++_, flatMap, append-assoc}
 use mathlib.Core.Option.{Option, none, some, Option·some-injective, Option·some-ne-none}
 use native.Mathlib.Omega.{arith}
 use borrow.Author.Tests.{eq-eqb, ne-eqb}
@@ -15,10 +15,10 @@ use Rattle.patterns.specs.Term.{fill}
 use Rattle.patterns.specs.First.{Exp, Pattern, Pair, one}
 use Rattle.patterns.specs.Every.{Every}
 use Rattle.patterns.specs.Derive.{Rule, Book}
-use Rattle.patterns.specs.Certificate.{Fills, by, Mark, Claim, Use, Stop, fact, call, Kind, unfolds}
-use Rattle.patterns.specs.Checks.{instance, instance-mark, reindex-mark}
-use Rattle.patterns.specs.Demand.{empty, present, Met}
-use Rattle.patterns.specs.Judge.{Check, check, compare, given, pending, parts, stops, line-checks}
+use Rattle.patterns.specs.Certificate.{Fills, by, Mark, Claim, Use, Stop, fact, call, unfolds}
+use Rattle.patterns.specs.Checks.{instance, instance-mark}
+use Rattle.patterns.specs.Demand.{empty, Met}
+use Rattle.patterns.specs.Judge.{Check, compare, given, pending, parts, stops, line-checks}
 use Rattle.grammar.specs.Listing.{Fields, if-any, term-fields, rule-fields, use-fields, filling-fields, stop-fields, stop-number, kind-fields}
 use Rattle.grammar.specs.Limits.{RootFits, UseFits, LastFits, StopFits, KindFits, call-counts}
 use Rattle.table.specs.Answer.{Says}
@@ -33,14 +33,13 @@ use Rattle.checking.specs.declared.Subject.the-variants.{Empty, Call, Plain, Us
 use Rattle.instances.specs.Lying.{Lies, behind}
 use Rattle.fillings.specs.Listings.{Lists}
 use Rattle.checking.specs.Placed.{Takes, RightAt, LeftAt, RuleAt}
-use Rattle.checking.specs.Known.{Below, Known, Scene, Uses, ReadsUse}
+use Rattle.checking.specs.Known.{Scene, Uses, ReadsUse}
 use Rattle.checking.specs.Subjects.{Means, PlainRight, UsedRight}
 use Rattle.checking.specs.Found.{Finds, number-at, Checks}
 use Rattle.unfolds.specs.Unfoldings.{EmptyRight, Pends, Spends, EndsAt, CallsAt, Unfolding, StopsBy, CallUsed, PartBy, LastPart, EndsBy, EndsUsed, Ends, Parts, Stops, UnfoldsBy, UnfoldAt}
-use Rattle.instances.proofs.Lying.{lies-rest, lies-front, lies-back}
+use Rattle.instances.proofs.Lying.{lies-front, lies-back}
 use Rattle.checking.proofs.Using.{rest-at}
 use Rattle.checking.proofs.Frames.{below-then, below-less, below-self, kept-below, known-below, scene-below, uses-below}
-use Rattle.checking.proofs.Subjects.{means-below}
 use Rattle.checking.proofs.Meanings.{call-means, left-itself, used-means, right-itself}
 use Rattle.checking.proofs.Finding.{fault-none, finds-fault, finds-last, finds-stop, finds-then, finds-met, finds-unmet, finds-none, finds-ending}
 

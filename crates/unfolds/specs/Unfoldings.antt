@@ -9,19 +9,18 @@ use Rattle.bits.specs.Packed.{width}
 use Rattle.patterns.specs.Term.{fill}
 use Rattle.patterns.specs.First.{Exp, Pattern, Pair, one}
 use Rattle.patterns.specs.Every.{Every}
-use Rattle.patterns.specs.Edition.{reindex}
 use Rattle.patterns.specs.Derive.{Rule, Book}
 use Rattle.patterns.specs.Certificate.{Fills, by, Mark, Claim, Use, Stop, unfolds}
-use Rattle.patterns.specs.Checks.{instance, instance-mark, reindex-mark}
+use Rattle.patterns.specs.Checks.{instance, instance-mark}
 use Rattle.patterns.specs.Demand.{empty}
 use Rattle.patterns.specs.Judge.{Check, check, compare, pending, parts, stops, line-checks}
-use Rattle.grammar.specs.Listing.{if-any, term-fields, use-fields, stop-fields, stop-number, kind-fields, kind-number}
+use Rattle.grammar.specs.Listing.{if-any, term-fields, use-fields, stop-fields, stop-number, kind-fields}
 use Rattle.grammar.specs.Limits.{RootFits, UseFits, LastFits, StopFits, KindFits, call-counts}
 use Rattle.table.specs.Answer.{Says}
 use Rattle.checking.specs.declared.Found.{Found}
 use Rattle.checking.specs.declared.Instance.{Instance}
 use Rattle.instances.specs.Lying.{Lies, behind}
-use Rattle.checking.specs.Placed.{RightAt, LeftAt, RuleAt}
+use Rattle.checking.specs.Placed.{RightAt, LeftAt}
 use Rattle.checking.specs.Known.{Below, Known, Scene, Uses}
 use Rattle.checking.specs.declared.Subject.{Subject}
 use Rattle.checking.specs.Subjects.{Means}

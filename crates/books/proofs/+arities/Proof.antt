@@ -1,3 +1,4 @@
+-- `books::arities` meets its contract.
 use mathlib.Core.Path.{refl}
 use Rattle.fields.proofs.Seqs.{seq-no, seq-on, seq-last}
 use Rattle.fields.proofs.Many.{many-none, many-some}
@@ -22,7 +23,6 @@ arities-at t = and 4 arities-kinds.ps (is 4 arities-kinds.ps μ-arities t) ariti
 abbrev arities-below : ℕ → In 4 arities-kinds.ps
 arities-below t = and 4 arities-kinds.ps (falls 4 arities-kinds.ps _<_ μ-arities t) arities.Pre
 
--- src/lib.rt:33:9
 arities-returns : (t : ℕ) → arities-lts.Need-returns (
   take-reads.Asked,
   take-reads.Learnt,
@@ -31,7 +31,6 @@ arities-returns : (t : ℕ) → arities-lts.Need-returns (
 ) (arities-at t) arities.Post
 arities-returns t c = many-none arities-many _ (c .if1 .taken)
 
--- src/lib.rt:35:11
 arities-take-requires : (t : ℕ) → arities-lts.Need-take-requires (
   take-reads.Asked,
   take-reads.Learnt,
@@ -40,7 +39,6 @@ arities-take-requires : (t : ℕ) → arities-lts.Need-take-requires (
 ) (arities-at t) arities.Post
 arities-take-requires t c κs = search needs
 
--- src/lib.rt:36:18
 arities-enum-known-m : (t : ℕ) → arities-lts.Need-enum-known-m (
   take-reads.Asked,
   take-reads.Learnt,
@@ -49,7 +47,6 @@ arities-enum-known-m : (t : ℕ) → arities-lts.Need-enum-known-m (
 ) (arities-at t) arities.Post
 arities-enum-known-m t c = search needs
 
--- src/lib.rt:37:21
 arities-enum-known-d : (t : ℕ) → arities-lts.Need-enum-known-d (
   take-reads.Asked,
   take-reads.Learnt,
@@ -58,7 +55,6 @@ arities-enum-known-d : (t : ℕ) → arities-lts.Need-enum-known-d (
 ) (arities-at t) arities.Post
 arities-enum-known-d t c = search needs
 
--- src/lib.rt:37:58
 arities-sub-arities : (t : ℕ) → arities-lts.Need-sub-arities (
   take-reads.Asked,
   take-reads.Learnt,
@@ -67,7 +63,6 @@ arities-sub-arities : (t : ℕ) → arities-lts.Need-sub-arities (
 ) (arities-at t) arities.Post
 arities-sub-arities t c = search needs
 
--- src/lib.rt:37:27
 arities-arities-requires : (t : ℕ) → arities-lts.Need-arities-requires (
   take-reads.Asked,
   take-reads.Learnt,
@@ -76,7 +71,6 @@ arities-arities-requires : (t : ℕ) → arities-lts.Need-arities-requires (
 ) (arities-at t) arities.Post
 arities-arities-requires t c κs = search needs
 
--- src/lib.rt:29:1
 arities-same-length : (t : ℕ) → arities-lts.Need-same-length (
   take-reads.Asked,
   take-reads.Learnt,
@@ -85,7 +79,6 @@ arities-same-length : (t : ℕ) → arities-lts.Need-same-length (
 ) (arities-at t) arities.Post
 arities-same-length t c = search needs
 
--- src/lib.rt:29:1
 arities-same-length-2 : (t : ℕ) → arities-lts.Need-same-length-2 (
   take-reads.Asked,
   take-reads.Learnt,
@@ -94,7 +87,6 @@ arities-same-length-2 : (t : ℕ) → arities-lts.Need-same-length-2 (
 ) (arities-at t) arities.Post
 arities-same-length-2 t c = search needs
 
--- src/lib.rt:29:1
 arities-returns-2 : (t : ℕ) → arities-lts.Need-returns-2 (
   take-reads.Asked,
   take-reads.Learnt,
@@ -103,7 +95,6 @@ arities-returns-2 : (t : ℕ) → arities-lts.Need-returns-2 (
 ) (arities-at t) arities.Post
 arities-returns-2 t c = many-some arities-many _ (c .before .before .before .before .before .before .before .before .before .before .if1 .left) (seq-no (c .before .before .before .before .before .before .before .take .ensures) _ (c .before .m .given .1))
 
--- src/lib.rt:29:1
 arities-same-length-3 : (t : ℕ) → arities-lts.Need-same-length-3 (
   take-reads.Asked,
   take-reads.Learnt,
@@ -112,7 +103,6 @@ arities-same-length-3 : (t : ℕ) → arities-lts.Need-same-length-3 (
 ) (arities-at t) arities.Post
 arities-same-length-3 t c = search needs
 
--- src/lib.rt:29:1
 arities-same-length-4 : (t : ℕ) → arities-lts.Need-same-length-4 (
   take-reads.Asked,
   take-reads.Learnt,
@@ -121,7 +111,6 @@ arities-same-length-4 : (t : ℕ) → arities-lts.Need-same-length-4 (
 ) (arities-at t) arities.Post
 arities-same-length-4 t c = search needs
 
--- src/lib.rt:29:1
 arities-returns-3 : (t : ℕ) → arities-lts.Need-returns-3 (
   take-reads.Asked,
   take-reads.Learnt,

@@ -1,3 +1,4 @@
+-- `books::calls` meets its contract.
 use mathlib.Core.Path.{refl}
 use Rattle.fields.proofs.Seqs.{seq-no, seq-on, seq-last}
 use Rattle.books.proofs.Counting.{roots-none, roots-some}
@@ -21,7 +22,6 @@ calls-at t = and 5 calls-kinds.ps (is 5 calls-kinds.ps μ-calls t) calls.Pre
 abbrev calls-below : ℕ → In 5 calls-kinds.ps
 calls-below t = and 5 calls-kinds.ps (falls 5 calls-kinds.ps _<_ μ-calls t) calls.Pre
 
--- src/lib.rt:65:9
 calls-returns : (t : ℕ) → calls-lts.Need-returns (
   root-term-reads.Asked,
   root-term-reads.Learnt,
@@ -30,7 +30,6 @@ calls-returns : (t : ℕ) → calls-lts.Need-returns (
 ) (calls-at t) calls.Post
 calls-returns t c = roots-none _ _ (c .if1 .taken)
 
--- src/lib.rt:67:11
 calls-root-term-requires : (t : ℕ) → calls-lts.Need-root-term-requires (
   root-term-reads.Asked,
   root-term-reads.Learnt,
@@ -39,7 +38,6 @@ calls-root-term-requires : (t : ℕ) → calls-lts.Need-root-term-requires (
 ) (calls-at t) calls.Post
 calls-root-term-requires t c κs = search needs
 
--- src/lib.rt:68:18
 calls-enum-known-m : (t : ℕ) → calls-lts.Need-enum-known-m (
   root-term-reads.Asked,
   root-term-reads.Learnt,
@@ -48,7 +46,6 @@ calls-enum-known-m : (t : ℕ) → calls-lts.Need-enum-known-m (
 ) (calls-at t) calls.Post
 calls-enum-known-m t c = search needs
 
--- src/lib.rt:69:21
 calls-enum-known-d : (t : ℕ) → calls-lts.Need-enum-known-d (
   root-term-reads.Asked,
   root-term-reads.Learnt,
@@ -57,7 +54,6 @@ calls-enum-known-d : (t : ℕ) → calls-lts.Need-enum-known-d (
 ) (calls-at t) calls.Post
 calls-enum-known-d t c = search needs
 
--- src/lib.rt:69:70
 calls-sub-calls : (t : ℕ) → calls-lts.Need-sub-calls (
   root-term-reads.Asked,
   root-term-reads.Learnt,
@@ -66,7 +62,6 @@ calls-sub-calls : (t : ℕ) → calls-lts.Need-sub-calls (
 ) (calls-at t) calls.Post
 calls-sub-calls t c = search needs
 
--- src/lib.rt:69:27
 calls-calls-requires : (t : ℕ) → calls-lts.Need-calls-requires (
   root-term-reads.Asked,
   root-term-reads.Learnt,
@@ -75,7 +70,6 @@ calls-calls-requires : (t : ℕ) → calls-lts.Need-calls-requires (
 ) (calls-at t) calls.Post
 calls-calls-requires t c κs = search needs
 
--- src/lib.rt:52:1
 calls-same-length : (t : ℕ) → calls-lts.Need-same-length (
   root-term-reads.Asked,
   root-term-reads.Learnt,
@@ -84,7 +78,6 @@ calls-same-length : (t : ℕ) → calls-lts.Need-same-length (
 ) (calls-at t) calls.Post
 calls-same-length t c = search needs
 
--- src/lib.rt:52:1
 calls-same-length-2 : (t : ℕ) → calls-lts.Need-same-length-2 (
   root-term-reads.Asked,
   root-term-reads.Learnt,
@@ -93,7 +86,6 @@ calls-same-length-2 : (t : ℕ) → calls-lts.Need-same-length-2 (
 ) (calls-at t) calls.Post
 calls-same-length-2 t c = search needs
 
--- src/lib.rt:52:1
 calls-returns-2 : (t : ℕ) → calls-lts.Need-returns-2 (
   root-term-reads.Asked,
   root-term-reads.Learnt,
@@ -102,7 +94,6 @@ calls-returns-2 : (t : ℕ) → calls-lts.Need-returns-2 (
 ) (calls-at t) calls.Post
 calls-returns-2 t c = roots-some _ _ (c .before .before .before .before .before .before .before .before .before .before .if1 .left) (seq-no (c .before .before .before .before .before .before .before .root-term .ensures) _ (c .before .m .given .1))
 
--- src/lib.rt:52:1
 calls-same-length-3 : (t : ℕ) → calls-lts.Need-same-length-3 (
   root-term-reads.Asked,
   root-term-reads.Learnt,
@@ -111,7 +102,6 @@ calls-same-length-3 : (t : ℕ) → calls-lts.Need-same-length-3 (
 ) (calls-at t) calls.Post
 calls-same-length-3 t c = search needs
 
--- src/lib.rt:52:1
 calls-same-length-4 : (t : ℕ) → calls-lts.Need-same-length-4 (
   root-term-reads.Asked,
   root-term-reads.Learnt,
@@ -120,7 +110,6 @@ calls-same-length-4 : (t : ℕ) → calls-lts.Need-same-length-4 (
 ) (calls-at t) calls.Post
 calls-same-length-4 t c = search needs
 
--- src/lib.rt:52:1
 calls-returns-3 : (t : ℕ) → calls-lts.Need-returns-3 (
   root-term-reads.Asked,
   root-term-reads.Learnt,

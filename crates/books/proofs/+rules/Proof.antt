@@ -1,5 +1,5 @@
+-- `books::rules` meets its contract.
 use mathlib.Core.Path.{refl}
-use native.Mathlib.Omega.{arith}
 use Rattle.fields.proofs.Seqs.{seq-no, seq-on, seq-last}
 use Rattle.fields.proofs.Many.{many-none, many-some}
 use Rattle.books.proofs.Counting.{rules-many, rule-few, counted-none, counted-no, counted-more}
@@ -24,7 +24,6 @@ rules-at t = and 6 rules-kinds.ps (is 6 rules-kinds.ps μ-rules t) rules.Pre
 abbrev rules-below : ℕ → In 6 rules-kinds.ps
 rules-below t = and 6 rules-kinds.ps (falls 6 rules-kinds.ps _<_ μ-rules t) rules.Pre
 
--- src/lib.rt:135:9
 rules-returns : (t : ℕ) → rules-lts.Need-returns (
   rule-reads.Asked,
   rule-reads.Learnt,
@@ -35,7 +34,6 @@ rules-returns : (t : ℕ) → rules-lts.Need-returns (
 ) (rules-at t) rules.Post
 rules-returns t c = (many-none (rules-many _) _ (c .if1 .taken), counted-none _ _ _ (c .if1 .taken))
 
--- src/lib.rt:137:11
 rules-rule-requires : (t : ℕ) → rules-lts.Need-rule-requires (
   rule-reads.Asked,
   rule-reads.Learnt,
@@ -46,7 +44,6 @@ rules-rule-requires : (t : ℕ) → rules-lts.Need-rule-requires (
 ) (rules-at t) rules.Post
 rules-rule-requires t c κs = search needs
 
--- src/lib.rt:138:18
 rules-enum-known-m : (t : ℕ) → rules-lts.Need-enum-known-m (
   rule-reads.Asked,
   rule-reads.Learnt,
@@ -57,7 +54,6 @@ rules-enum-known-m : (t : ℕ) → rules-lts.Need-enum-known-m (
 ) (rules-at t) rules.Post
 rules-enum-known-m t c = search needs
 
--- src/lib.rt:139:18
 rules-enum-known-m-2 : (t : ℕ) → rules-lts.Need-enum-known-m-2 (
   rule-reads.Asked,
   rule-reads.Learnt,
@@ -68,7 +64,6 @@ rules-enum-known-m-2 : (t : ℕ) → rules-lts.Need-enum-known-m-2 (
 ) (rules-at t) rules.Post
 rules-enum-known-m-2 t c = search needs
 
--- src/lib.rt:140:29
 rules-cast-note : (t : ℕ) → rules-lts.Need-cast-note (
   rule-reads.Asked,
   rule-reads.Learnt,
@@ -79,7 +74,6 @@ rules-cast-note : (t : ℕ) → rules-lts.Need-cast-note (
 ) (rules-at t) rules.Post
 rules-cast-note t c = let h = rule-few _ (c .before .before .before .before .before .before .before .before .rule .ensures) (c .before .before .m2 .given .1) in search needs
 
--- src/lib.rt:140:13
 rules-note-requires : (t : ℕ) → rules-lts.Need-note-requires (
   rule-reads.Asked,
   rule-reads.Learnt,
@@ -90,7 +84,6 @@ rules-note-requires : (t : ℕ) → rules-lts.Need-note-requires (
 ) (rules-at t) rules.Post
 rules-note-requires t c κs = search needs
 
--- src/lib.rt:141:64
 rules-add-rules : (t : ℕ) → rules-lts.Need-add-rules (
   rule-reads.Asked,
   rule-reads.Learnt,
@@ -101,7 +94,6 @@ rules-add-rules : (t : ℕ) → rules-lts.Need-add-rules (
 ) (rules-at t) rules.Post
 rules-add-rules t c = search needs
 
--- src/lib.rt:141:71
 rules-sub-rules : (t : ℕ) → rules-lts.Need-sub-rules (
   rule-reads.Asked,
   rule-reads.Learnt,
@@ -112,7 +104,6 @@ rules-sub-rules : (t : ℕ) → rules-lts.Need-sub-rules (
 ) (rules-at t) rules.Post
 rules-sub-rules t c = search needs
 
--- src/lib.rt:141:13
 rules-rules-requires : (t : ℕ) → rules-lts.Need-rules-requires (
   rule-reads.Asked,
   rule-reads.Learnt,
@@ -123,7 +114,6 @@ rules-rules-requires : (t : ℕ) → rules-lts.Need-rules-requires (
 ) (rules-at t) rules.Post
 rules-rules-requires t c κs = search needs
 
--- src/lib.rt:118:1
 rules-same-length : (t : ℕ) → rules-lts.Need-same-length (
   rule-reads.Asked,
   rule-reads.Learnt,
@@ -134,7 +124,6 @@ rules-same-length : (t : ℕ) → rules-lts.Need-same-length (
 ) (rules-at t) rules.Post
 rules-same-length t c = search needs
 
--- src/lib.rt:118:1
 rules-same-length-2 : (t : ℕ) → rules-lts.Need-same-length-2 (
   rule-reads.Asked,
   rule-reads.Learnt,
@@ -145,7 +134,6 @@ rules-same-length-2 : (t : ℕ) → rules-lts.Need-same-length-2 (
 ) (rules-at t) rules.Post
 rules-same-length-2 t c = search needs
 
--- src/lib.rt:118:1
 rules-returns-2 : (t : ℕ) → rules-lts.Need-returns-2 (
   rule-reads.Asked,
   rule-reads.Learnt,
@@ -156,7 +144,6 @@ rules-returns-2 : (t : ℕ) → rules-lts.Need-returns-2 (
 ) (rules-at t) rules.Post
 rules-returns-2 t c = (many-some (rules-many _) _ (c .before .before .before .before .before .before .before .before .before .before .if1 .left) (seq-no (c .before .before .before .before .before .before .before .rule .ensures) _ (c .before .m .given .1)), counted-no _ _ _ (c .before .before .before .before .before .before .before .rule .ensures) (c .before .before .before .before .before .before .before .before .before .before .if1 .left) (c .before .m .given .1))
 
--- src/lib.rt:118:1
 rules-same-length-3 : (t : ℕ) → rules-lts.Need-same-length-3 (
   rule-reads.Asked,
   rule-reads.Learnt,
@@ -167,7 +154,6 @@ rules-same-length-3 : (t : ℕ) → rules-lts.Need-same-length-3 (
 ) (rules-at t) rules.Post
 rules-same-length-3 t c = search needs
 
--- src/lib.rt:118:1
 rules-same-length-4 : (t : ℕ) → rules-lts.Need-same-length-4 (
   rule-reads.Asked,
   rule-reads.Learnt,
@@ -178,7 +164,6 @@ rules-same-length-4 : (t : ℕ) → rules-lts.Need-same-length-4 (
 ) (rules-at t) rules.Post
 rules-same-length-4 t c = search needs
 
--- src/lib.rt:118:1
 rules-same-length-5 : (t : ℕ) → rules-lts.Need-same-length-5 (
   rule-reads.Asked,
   rule-reads.Learnt,
@@ -189,7 +174,6 @@ rules-same-length-5 : (t : ℕ) → rules-lts.Need-same-length-5 (
 ) (rules-at t) rules.Post
 rules-same-length-5 t c = search needs
 
--- src/lib.rt:118:1
 rules-returns-3 : (t : ℕ) → rules-lts.Need-returns-3 (
   rule-reads.Asked,
   rule-reads.Learnt,

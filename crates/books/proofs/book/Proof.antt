@@ -1,56 +1,42 @@
+-- `books::book` meets its contract.
 use Rattle.fields.proofs.Seqs.{seq-no}
 use Rattle.grammar.specs.Books.{a-book}
 use Rattle.books.proofs.Whole.{book-on, book-counted, book-uncounted}
 use borrow.Author.Needs.{needs}
 use Rattle.books.proofs.book.Statement.{statement}
 use Rattle.books.proofs.book.Tie as tie
-use Rattle.books.proofs.book.Reads as reads
-use Rattle.books.proofs.book.Lts as lts
-use Rattle.books.proofs.rule_list.Reads as rule-list-reads
-use Rattle.books.proofs.signature.Reads as signature-reads
 
--- src/lib.rt:186:11
 signature-requires : tie.Need-signature-requires
 signature-requires c κs = search needs
 
--- src/lib.rt:187:18
 enum-known-m : tie.Need-enum-known-m
 enum-known-m c = search needs
 
--- src/lib.rt:188:21
 enum-known-d : tie.Need-enum-known-d
 enum-known-d c = search needs
 
--- src/lib.rt:188:27
 rule-list-requires : tie.Need-rule-list-requires
 rule-list-requires c κs = search needs
 
--- src/lib.rt:170:1
 same-length : tie.Need-same-length
 same-length c = search needs
 
--- src/lib.rt:170:1
 same-length-2 : tie.Need-same-length-2
 same-length-2 c = search needs
 
--- src/lib.rt:170:1
 returns : tie.Need-returns
 unfolding a-book
 returns c = (seq-no (c .before .before .before .before .before .before .before .signature .ensures) _ (c .before .m .given .1), book-uncounted _ _ _ (c .before .before .before .before .before .before .before .signature .ensures) (c .before .m .given .1))
 
--- src/lib.rt:170:1
 same-length-3 : tie.Need-same-length-3
 same-length-3 c = search needs
 
--- src/lib.rt:170:1
 same-length-4 : tie.Need-same-length-4
 same-length-4 c = search needs
 
--- src/lib.rt:170:1
 same-length-5 : tie.Need-same-length-5
 same-length-5 c = search needs
 
--- src/lib.rt:170:1
 returns-2 : tie.Need-returns-2
 returns-2 c = (book-on _ _ _ (c .before .before .before .before .before .before .before .before .before .before .before .before .before .before .before .before .before .signature .ensures) (c .before .before .before .before .before .before .before .before .before .before .before .d .given .1) (c .before .before .before .before .before .before .rule-list .ensures .0), book-counted _ _ _ (c .before .before .before .before .before .before .before .before .before .before .before .before .before .before .before .before .before .signature .ensures) (c .before .before .before .before .before .before .before .before .before .before .before .d .given .1) (c .before .before .before .before .before .before .rule-list .ensures .1))
 

@@ -1,24 +1,19 @@
+-- `books::note` meets its contract.
 use mathlib.Core.Path.{sym}
 use lib.Seq.{set-out}
 use borrow.Author.Needs.{needs}
 use Rattle.books.proofs.note.Statement.{statement}
 use Rattle.books.proofs.note.Tie as tie
-use Rattle.books.proofs.note.Reads as reads
-use Rattle.books.proofs.note.Lts as lts
 
--- src/lib.rt:118:9
 slice-write-counts : tie.Need-slice-write-counts
 slice-write-counts c = search needs
 
--- src/lib.rt:114:1
 same-length : tie.Need-same-length
 same-length c = search needs
 
--- src/lib.rt:114:1
 returns : tie.Need-returns
 returns c = search needs
 
--- src/lib.rt:114:1
 returns-2 : tie.Need-returns-2
 returns-2 c = sym (set-out _ _ _ (c .if1 .left))
 

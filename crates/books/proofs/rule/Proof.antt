@@ -1,73 +1,55 @@
+-- `books::rule` meets its contract.
 use Rattle.fields.proofs.Seqs.{seq-no, seq-at}
 use Rattle.grammar.specs.Books.{a-rule}
 use Rattle.books.proofs.Counting.{rule-counted, rule-refused}
 use borrow.Author.Needs.{needs}
 use Rattle.books.proofs.rule.Statement.{statement}
 use Rattle.books.proofs.rule.Tie as tie
-use Rattle.books.proofs.rule.Reads as reads
-use Rattle.books.proofs.rule.Lts as lts
-use Rattle.books.proofs.rule_of.Reads as rule-of-reads
-use Rattle.fields.proofs.Cursor.take.Reads as take-reads
 
--- src/lib.rt:99:11
 take-requires : tie.Need-take-requires
 take-requires c κs = search needs
 
--- src/lib.rt:100:18
 enum-known-m : tie.Need-enum-known-m
 enum-known-m c = search needs
 
--- src/lib.rt:101:18
 enum-known-n : tie.Need-enum-known-n
 enum-known-n c = search needs
 
--- src/lib.rt:101:33
 rule-of-requires : tie.Need-rule-of-requires
 rule-of-requires c κs = search needs
 
--- src/lib.rt:102:22
 enum-known-m-2 : tie.Need-enum-known-m-2
 enum-known-m-2 c = search needs
 
--- src/lib.rt:103:25
 enum-known-e : tie.Need-enum-known-e
 enum-known-e c = search needs
 
--- src/lib.rt:88:1
 same-length : tie.Need-same-length
 same-length c = search needs
 
--- src/lib.rt:88:1
 same-length-2 : tie.Need-same-length-2
 same-length-2 c = search needs
 
--- src/lib.rt:88:1
 returns : tie.Need-returns
 unfolding a-rule
 returns c = seq-no (c .before .before .before .before .before .before .before .take .ensures) _ (c .before .m .given .1)
 
--- src/lib.rt:88:1
 same-length-3 : tie.Need-same-length-3
 same-length-3 c = search needs
 
--- src/lib.rt:88:1
 same-length-4 : tie.Need-same-length-4
 same-length-4 c = search needs
 
--- src/lib.rt:88:1
 returns-2 : tie.Need-returns-2
 unfolding a-rule
 returns-2 c = seq-at _ (c .before .before .before .before .before .before .before .before .before .before .before .before .before .before .before .before .before .take .ensures) (c .before .before .before .before .before .before .before .before .before .before .before .n .given .1) (rule-refused _ _ (c .before .before .before .before .before .before .before .rule-of .ensures) (c .before .m2 .given .1))
 
--- src/lib.rt:88:1
 same-length-5 : tie.Need-same-length-5
 same-length-5 c = search needs
 
--- src/lib.rt:88:1
 same-length-6 : tie.Need-same-length-6
 same-length-6 c = search needs
 
--- src/lib.rt:88:1
 returns-3 : tie.Need-returns-3
 unfolding a-rule
 returns-3 c = seq-at _ (c .before .before .before .before .before .before .before .before .before .before .before .before .before .before .before .before .before .take .ensures) (c .before .before .before .before .before .before .before .before .before .before .before .n .given .1) (rule-counted _ _ (c .before .before .before .before .before .before .before .rule-of .ensures) (c .before .e .given .1))

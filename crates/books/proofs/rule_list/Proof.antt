@@ -1,3 +1,4 @@
+-- `books::rule_list` meets its contract.
 use Rattle.fields.proofs.Seqs.{seq-no, seq-at}
 use Rattle.fields.proofs.Always.{taken-below}
 use Rattle.grammar.specs.Books.{a-rule-list}
@@ -5,78 +6,57 @@ use Rattle.books.proofs.Counting.{rules-all, rules-refused, list-no, li
 use borrow.Author.Needs.{needs}
 use Rattle.books.proofs.rule_list.Statement.{statement}
 use Rattle.books.proofs.rule_list.Tie as tie
-use Rattle.books.proofs.rule_list.Reads as reads
-use Rattle.books.proofs.rule_list.Lts as lts
-use Rattle.books.proofs.rules.Reads as rules-reads
-use Rattle.fields.proofs.Cursor.take.Reads as take-reads
 
--- src/lib.rt:160:11
 take-requires : tie.Need-take-requires
 take-requires c κs = search needs
 
--- src/lib.rt:161:18
 enum-known-m : tie.Need-enum-known-m
 enum-known-m c = search needs
 
--- src/lib.rt:162:18
 enum-known-n : tie.Need-enum-known-n
 enum-known-n c = search needs
 
--- src/lib.rt:162:33
 rules-requires : tie.Need-rules-requires
 rules-requires c κs = let h = taken-below _ _ _ _ (c .before .before .before .before .before .before .before .before .before .before .take .ensures) (c .before .before .before .before .n .given .1) in search needs
 
--- src/lib.rt:163:22
 enum-known-m-2 : tie.Need-enum-known-m-2
 enum-known-m-2 c = search needs
 
--- src/lib.rt:164:25
 enum-known-e : tie.Need-enum-known-e
 enum-known-e c = search needs
 
--- src/lib.rt:147:1
 same-length : tie.Need-same-length
 same-length c = search needs
 
--- src/lib.rt:147:1
 same-length-2 : tie.Need-same-length-2
 same-length-2 c = search needs
 
--- src/lib.rt:147:1
 returns : tie.Need-returns
 unfolding a-rule-list
 returns c = (seq-no (c .before .before .before .before .before .before .before .take .ensures) _ (c .before .m .given .1), list-no _ _ _ (c .before .before .before .before .before .before .before .take .ensures) (c .before .m .given .1))
 
--- src/lib.rt:147:1
 same-length-3 : tie.Need-same-length-3
 same-length-3 c = search needs
 
--- src/lib.rt:147:1
 same-length-4 : tie.Need-same-length-4
 same-length-4 c = search needs
 
--- src/lib.rt:147:1
 same-length-5 : tie.Need-same-length-5
 same-length-5 c = search needs
 
--- src/lib.rt:147:1
 returns-2 : tie.Need-returns-2
 unfolding a-rule-list
 returns-2 c = (seq-at _ (c .before .before .before .before .before .before .before .before .before .before .before .before .before .before .before .before .before .before .before .before .take .ensures) (c .before .before .before .before .before .before .before .before .before .before .before .before .before .before .n .given .1) (rules-refused _ _ (c .before .before .before .before .before .before .before .before .before .rules .ensures .0) (c .before .m2 .given .1)), list-on _ _ _ (c .before .before .before .before .before .before .before .before .before .before .before .before .before .before .before .before .before .before .before .before .take .ensures) (c .before .before .before .before .before .before .before .before .before .before .before .before .before .before .n .given .1) (c .before .before .before .before .before .before .before .before .before .rules .ensures .1))
 
--- src/lib.rt:147:1
 same-length-6 : tie.Need-same-length-6
 same-length-6 c = search needs
 
--- src/lib.rt:147:1
 same-length-7 : tie.Need-same-length-7
 same-length-7 c = search needs
 
--- src/lib.rt:147:1
 same-length-8 : tie.Need-same-length-8
 same-length-8 c = search needs
 
--- src/lib.rt:147:1
 returns-3 : tie.Need-returns-3
 unfolding a-rule-list
 returns-3 c = (seq-at _ (c .before .before .before .before .before .before .before .before .before .before .before .before .before .before .before .before .before .before .before .before .take .ensures) (c .before .before .before .before .before .before .before .before .before .before .before .before .before .before .n .given .1) (rules-all _ _ (c .before .before .before .before .before .before .before .before .before .rules .ensures .0) (c .before .e .given .1)), list-on _ _ _ (c .before .before .before .before .before .before .before .before .before .before .before .before .before .before .before .before .before .before .before .before .take .ensures) (c .before .before .before .before .before .before .before .before .before .before .before .before .before .before .n .given .1) (c .before .before .before .before .before .before .before .before .before .rules .ensures .1))

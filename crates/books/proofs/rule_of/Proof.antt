@@ -1,52 +1,39 @@
+-- `books::rule_of` meets its contract.
 use mathlib.Core.Path.{refl}
 use Rattle.fields.proofs.Seqs.{seq-no, seq-on, seq-last}
 use Rattle.grammar.specs.Books.{a-rule-of}
 use borrow.Author.Needs.{needs}
 use Rattle.books.proofs.rule_of.Statement.{statement}
 use Rattle.books.proofs.rule_of.Tie as tie
-use Rattle.books.proofs.rule_of.Reads as reads
-use Rattle.books.proofs.rule_of.Lts as lts
-use Rattle.books.proofs.calls.Reads as calls-reads
-use Rattle.terms.proofs.root_term.Reads as root-term-reads
 
--- src/lib.rt:81:11
 root-term-requires : tie.Need-root-term-requires
 root-term-requires c κs = search needs
 
--- src/lib.rt:82:18
 enum-known-m : tie.Need-enum-known-m
 enum-known-m c = search needs
 
--- src/lib.rt:83:21
 enum-known-d : tie.Need-enum-known-d
 enum-known-d c = search needs
 
--- src/lib.rt:83:27
 calls-requires : tie.Need-calls-requires
 calls-requires c κs = search needs
 
--- src/lib.rt:69:1
 same-length : tie.Need-same-length
 same-length c = search needs
 
--- src/lib.rt:69:1
 same-length-2 : tie.Need-same-length-2
 same-length-2 c = search needs
 
--- src/lib.rt:69:1
 returns : tie.Need-returns
 unfolding a-rule-of
 returns c = seq-no (c .before .before .before .before .before .before .before .root-term .ensures) _ (c .before .m .given .1)
 
--- src/lib.rt:69:1
 same-length-3 : tie.Need-same-length-3
 same-length-3 c = search needs
 
--- src/lib.rt:69:1
 same-length-4 : tie.Need-same-length-4
 same-length-4 c = search needs
 
--- src/lib.rt:69:1
 returns-2 : tie.Need-returns-2
 unfolding a-rule-of
 returns-2 c = seq-on (c .before .before .before .before .before .before .before .before .before .before .before .before .before .before .root-term .ensures) _ (c .before .before .before .before .before .before .before .before .d .given .1) (λ g q. seq-last _ (λ ts. refl) (c .before .before .before .before .calls .ensures))

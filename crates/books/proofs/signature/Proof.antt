@@ -1,51 +1,38 @@
+-- `books::signature` meets its contract.
 use Rattle.fields.proofs.Seqs.{seq-no, seq-at}
 use Rattle.grammar.specs.Books.{a-signature}
 use borrow.Author.Needs.{needs}
 use Rattle.books.proofs.signature.Statement.{statement}
 use Rattle.books.proofs.signature.Tie as tie
-use Rattle.books.proofs.signature.Reads as reads
-use Rattle.books.proofs.signature.Lts as lts
-use Rattle.books.proofs.arities.Reads as arities-reads
-use Rattle.fields.proofs.Cursor.take.Reads as take-reads
 
--- src/lib.rt:40:11
 take-requires : tie.Need-take-requires
 take-requires c κs = search needs
 
--- src/lib.rt:41:18
 enum-known-m : tie.Need-enum-known-m
 enum-known-m c = search needs
 
--- src/lib.rt:42:18
 enum-known-n : tie.Need-enum-known-n
 enum-known-n c = search needs
 
--- src/lib.rt:42:27
 arities-requires : tie.Need-arities-requires
 arities-requires c κs = search needs
 
--- src/lib.rt:37:1
 same-length : tie.Need-same-length
 same-length c = search needs
 
--- src/lib.rt:37:1
 same-length-2 : tie.Need-same-length-2
 same-length-2 c = search needs
 
--- src/lib.rt:37:1
 returns : tie.Need-returns
 unfolding a-signature
 returns c = seq-no (c .before .before .before .before .before .before .before .take .ensures) _ (c .before .m .given .1)
 
--- src/lib.rt:37:1
 same-length-3 : tie.Need-same-length-3
 same-length-3 c = search needs
 
--- src/lib.rt:37:1
 same-length-4 : tie.Need-same-length-4
 same-length-4 c = search needs
 
--- src/lib.rt:37:1
 returns-2 : tie.Need-returns-2
 unfolding a-signature
 returns-2 c = seq-at _ (c .before .before .before .before .before .before .before .before .before .before .before .before .before .before .take .ensures) (c .before .before .before .before .before .before .before .before .n .given .1) (c .before .before .before .before .arities .ensures)

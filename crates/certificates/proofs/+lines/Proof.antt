@@ -1,3 +1,4 @@
+-- `certificates::lines` meets its contract.
 use mathlib.Core.Path.{refl}
 use Rattle.fields.proofs.Seqs.{seq-no, seq-on, seq-last}
 use Rattle.certificates.proofs.Cases.{lines-none, lines-some}

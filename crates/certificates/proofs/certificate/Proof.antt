@@ -1,3 +1,4 @@
+-- `certificates::certificate` meets its contract.
 use Rattle.fields.proofs.Seqs.{seq-no, seq-at}
 use Rattle.grammar.specs.Certificates.{a-certificate}
 use Rattle.fields.proofs.Always.{taken-below}

@@ -1,3 +1,4 @@
+-- `certificates::closed` meets its contract.
 use mathlib.Core.Path.{refl}
 use Rattle.fields.proofs.Seqs.{seq-no, seq-on, seq-last}
 use Rattle.grammar.specs.Certificates.{a-closed}

@@ -1,3 +1,4 @@
+-- `certificates::fall` meets its contract.
 use mathlib.Core.Path.{refl, sym, _∙_}
 use Rattle.fields.proofs.Sources.{got-near}
 use Rattle.fields.proofs.Runs.{ran-bad, ran-refused, one-in}

@@ -1,3 +1,4 @@
+-- `certificates::kind` meets its contract.
 use Rattle.certificates.proofs.Cases.{kind-unfold, kind-descent}
 use borrow.Author.Needs.{needs}
 use Rattle.certificates.proofs.kind.Statement.{statement}

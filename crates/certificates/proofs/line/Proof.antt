@@ -1,3 +1,4 @@
+-- `certificates::line` meets its contract.
 use Rattle.fields.proofs.Seqs.{seq-no, seq-at}
 use Rattle.grammar.specs.Certificates.{a-line}
 use borrow.Author.Needs.{needs}

@@ -1,3 +1,4 @@
+-- `certificates::line_of` meets its contract.
 use mathlib.Core.Path.{refl}
 use Rattle.fields.proofs.Seqs.{seq-no, seq-on, seq-last}
 use Rattle.grammar.specs.Certificates.{a-line-of}

@@ -1,3 +1,4 @@
+-- `certificates::right` meets its contract.
 use mathlib.Core.Path.{refl}
 use Rattle.fields.proofs.Seqs.{seq-no, seq-at, seq-last, ran-done}
 use Rattle.grammar.specs.Certificates.{a-right}

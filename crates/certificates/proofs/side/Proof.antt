@@ -1,3 +1,4 @@
+-- `certificates::side` meets its contract.
 use Rattle.certificates.proofs.Results.{dropped-no, dropped-on}
 use borrow.Author.Needs.{needs}
 use Rattle.certificates.proofs.side.Statement.{statement}

@@ -1,3 +1,4 @@
+-- `certificates::unfold` meets its contract.
 use mathlib.Core.Path.{refl}
 use Rattle.fields.proofs.Seqs.{seq-no, seq-at, seq-last}
 use Rattle.grammar.specs.Certificates.{an-unfold}

@@ -1,7 +1,5 @@
+-- `checking::note_rules` meets its contract.
 use Rattle.checking.proofs.Noting.{notes-none, notes-one}
-use lib.ListN.{length-set}
-use native.Mathlib.Omega.{arith}
-use mathlib.Core.Path.{_∙_}
 use borrow.Author.Needs.{needs}
 use Prim.Native.Nat.{ℕ, _<_}
 use borrow.Fn.Kinds.{In}
@@ -24,7 +22,6 @@ abbrev note-rules-below : ℕ → In 2 note-rules-kinds.ps
 note-rules-below t =
     and 2 note-rules-kinds.ps (falls 2 note-rules-kinds.ps _<_ μ-note-rules t) note-rules.Pre
 
--- src/lib.rt:153:9
 note-rules-returns : (t : ℕ) → note-rules-lts.Need-returns (
   pass-rule-reads.Asked,
   pass-rule-reads.Learnt,
@@ -33,7 +30,6 @@ note-rules-returns : (t : ℕ) → note-rules-lts.Need-returns (
 ) (note-rules-at t) note-rules.Post
 note-rules-returns t c = notes-none _ _ _ _ _ (c .if1 .taken)
 
--- src/lib.rt:155:5
 note-rules-mul-w : (t : ℕ) → note-rules-lts.Need-mul-w (
   pass-rule-reads.Asked,
   pass-rule-reads.Learnt,
@@ -42,7 +38,6 @@ note-rules-mul-w : (t : ℕ) → note-rules-lts.Need-mul-w (
 ) (note-rules-at t) note-rules.Post
 note-rules-mul-w t c = search needs
 
--- src/lib.rt:155:5
 note-rules-slice-write-w : (t : ℕ) → note-rules-lts.Need-slice-write-w (
   pass-rule-reads.Asked,
   pass-rule-reads.Learnt,
@@ -51,7 +46,6 @@ note-rules-slice-write-w : (t : ℕ) → note-rules-lts.Need-slice-write-w (
 ) (note-rules-at t) note-rules.Post
 note-rules-slice-write-w t c = search needs
 
--- src/lib.rt:156:9
 note-rules-pass-rule-requires : (t : ℕ) → note-rules-lts.Need-pass-rule-requires (
   pass-rule-reads.Asked,
   pass-rule-reads.Learnt,
@@ -60,7 +54,6 @@ note-rules-pass-rule-requires : (t : ℕ) → note-rules-lts.Need-pass-rule-requ
 ) (note-rules-at t) note-rules.Post
 note-rules-pass-rule-requires t c κs = search needs
 
--- src/lib.rt:157:31
 note-rules-add-note-rules : (t : ℕ) → note-rules-lts.Need-add-note-rules (
   pass-rule-reads.Asked,
   pass-rule-reads.Learnt,
@@ -69,7 +62,6 @@ note-rules-add-note-rules : (t : ℕ) → note-rules-lts.Need-add-note-rules (
 ) (note-rules-at t) note-rules.Post
 note-rules-add-note-rules t c = search needs
 
--- src/lib.rt:157:38
 note-rules-sub-note-rules : (t : ℕ) → note-rules-lts.Need-sub-note-rules (
   pass-rule-reads.Asked,
   pass-rule-reads.Learnt,
@@ -78,7 +70,6 @@ note-rules-sub-note-rules : (t : ℕ) → note-rules-lts.Need-sub-note-rules (
 ) (note-rules-at t) note-rules.Post
 note-rules-sub-note-rules t c = search needs
 
--- src/lib.rt:157:5
 note-rules-note-rules-requires : (t : ℕ) → note-rules-lts.Need-note-rules-requires (
   pass-rule-reads.Asked,
   pass-rule-reads.Learnt,
@@ -87,7 +78,6 @@ note-rules-note-rules-requires : (t : ℕ) → note-rules-lts.Need-note-rules-re
 ) (note-rules-at t) note-rules.Post
 note-rules-note-rules-requires t c κs = search needs
 
--- src/lib.rt:148:1
 note-rules-same-length : (t : ℕ) → note-rules-lts.Need-same-length (
   pass-rule-reads.Asked,
   pass-rule-reads.Learnt,
@@ -96,7 +86,6 @@ note-rules-same-length : (t : ℕ) → note-rules-lts.Need-same-length (
 ) (note-rules-at t) note-rules.Post
 note-rules-same-length t c = search (needs, c .before .before .note-rules .ensures .kept .size)
 
--- src/lib.rt:148:1
 note-rules-returns-2 : (t : ℕ) → note-rules-lts.Need-returns-2 (
   pass-rule-reads.Asked,
   pass-rule-reads.Learnt,

@@ -1,3 +1,4 @@
+-- `checking::pass_terms` meets its contract.
 use Rattle.checking.proofs.Passing.{passes-none, passes-one}
 use borrow.Author.Needs.{needs}
 use Prim.Native.Nat.{ℕ, _<_}
@@ -21,7 +22,6 @@ abbrev pass-terms-below : ℕ → In 2 pass-terms-kinds.ps
 pass-terms-below t =
     and 2 pass-terms-kinds.ps (falls 2 pass-terms-kinds.ps _<_ μ-pass-terms t) pass-terms.Pre
 
--- src/lib.rt:132:9
 pass-terms-returns : (t : ℕ) → pass-terms-lts.Need-returns (
   skip-reads.Asked,
   skip-reads.Learnt,
@@ -30,7 +30,6 @@ pass-terms-returns : (t : ℕ) → pass-terms-lts.Need-returns (
 ) (pass-terms-at t) pass-terms.Post
 pass-terms-returns t c = passes-none _ _ _ _ (c .if1 .taken)
 
--- src/lib.rt:134:9
 pass-terms-skip-requires : (t : ℕ) → pass-terms-lts.Need-skip-requires (
   skip-reads.Asked,
   skip-reads.Learnt,
@@ -39,7 +38,6 @@ pass-terms-skip-requires : (t : ℕ) → pass-terms-lts.Need-skip-requires (
 ) (pass-terms-at t) pass-terms.Post
 pass-terms-skip-requires t c κs = search needs
 
--- src/lib.rt:135:31
 pass-terms-sub-pass-terms : (t : ℕ) → pass-terms-lts.Need-sub-pass-terms (
   skip-reads.Asked,
   skip-reads.Learnt,
@@ -48,7 +46,6 @@ pass-terms-sub-pass-terms : (t : ℕ) → pass-terms-lts.Need-sub-pass-terms (
 ) (pass-terms-at t) pass-terms.Post
 pass-terms-sub-pass-terms t c = search needs
 
--- src/lib.rt:135:5
 pass-terms-pass-terms-requires : (t : ℕ) → pass-terms-lts.Need-pass-terms-requires (
   skip-reads.Asked,
   skip-reads.Learnt,
@@ -57,7 +54,6 @@ pass-terms-pass-terms-requires : (t : ℕ) → pass-terms-lts.Need-pass-terms-re
 ) (pass-terms-at t) pass-terms.Post
 pass-terms-pass-terms-requires t c κs = search needs
 
--- src/lib.rt:128:1
 pass-terms-returns-2 : (t : ℕ) → pass-terms-lts.Need-returns-2 (
   skip-reads.Asked,
   skip-reads.Learnt,

@@ -1,28 +1,21 @@
+-- `checking::field` meets its contract.
 use Rattle.checking.proofs.Taking.{takes-past, takes-got}
 use borrow.Author.Needs.{needs}
 use Rattle.checking.proofs.field.Statement.{statement}
 use Rattle.checking.proofs.field.Tie as tie
-use Rattle.checking.proofs.field.Reads as reads
-use Rattle.checking.proofs.field.Lts as lts
-use Rattle.bits.proofs.Cursor.take.Reads as take-reads
 
--- src/lib.rt:121:11
 take-requires : tie.Need-take-requires
 take-requires c κs = search needs
 
--- src/lib.rt:122:24
 enum-told : tie.Need-enum-told
 enum-told c = search needs
 
--- src/lib.rt:123:20
 enum-known-v : tie.Need-enum-known-v
 enum-known-v c = search needs
 
--- src/lib.rt:116:1
 returns : tie.Need-returns
 returns c = takes-past _ _ _ (c .before .before .before .before .pre) (c .before .before .take .ensures) (c .enum-told .given .1)
 
--- src/lib.rt:116:1
 returns-2 : tie.Need-returns-2
 returns-2 c = takes-got _ _ _ (c .before .before .before .before .before .pre) _ _ (c .before .before .before .take .ensures) (c .before .v .given .1)
 

@@ -1,25 +1,18 @@
+-- `checking::pass_right` meets its contract.
 use Rattle.checking.proofs.Passing.{passes-no-right, passes-some-right}
 use borrow.Author.Needs.{needs}
 use Rattle.checking.proofs.pass_right.Statement.{statement}
 use Rattle.checking.proofs.pass_right.Tie as tie
-use Rattle.checking.proofs.pass_right.Reads as reads
-use Rattle.checking.proofs.pass_right.Lts as lts
-use Rattle.checking.proofs.field.Reads as field-reads
-use Rattle.instances.proofs.skip.Reads as skip-reads
 
--- src/lib.rt:176:9
 field-requires : tie.Need-field-requires
 field-requires c κs = search needs
 
--- src/lib.rt:179:9
 returns : tie.Need-returns
 returns c = passes-no-right _ _ _ _ (c .before .before .field .ensures) (c .if1 .taken)
 
--- src/lib.rt:181:5
 skip-requires : tie.Need-skip-requires
 skip-requires c κs = search needs
 
--- src/lib.rt:173:1
 returns-2 : tie.Need-returns-2
 returns-2 c = passes-some-right _ _ _ _ _ (c .before .before .before .field .ensures) (c .before .if1 .left) (c .skip .ensures)
 

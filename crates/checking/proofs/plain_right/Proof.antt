@@ -1,20 +1,15 @@
+-- `checking::plain_right` meets its contract.
 use Rattle.checking.proofs.Meanings.{plain-none, plain-some}
 use borrow.Author.Needs.{needs}
 use Rattle.checking.proofs.plain_right.Statement.{statement}
 use Rattle.checking.proofs.plain_right.Tie as tie
-use Rattle.checking.proofs.plain_right.Reads as reads
-use Rattle.checking.proofs.plain_right.Lts as lts
-use Rattle.checking.proofs.field.Reads as field-reads
 
--- src/lib.rt:188:9
 field-requires : tie.Need-field-requires
 field-requires c κs = search needs
 
--- src/lib.rt:191:9
 returns : tie.Need-returns
 returns c = plain-none (c .before .before .field .ensures) _ _ (c .if1 .taken)
 
--- src/lib.rt:185:1
 returns-2 : tie.Need-returns-2
 returns-2 c = plain-some (c .before .before .field .ensures) _ _ (c .if1 .left)
 

@@ -1,39 +1,30 @@
+-- `fields::listed_at` meets its contract.
 use native.Mathlib.Omega.{arith}
 use Rattle.bits.proofs.Shifts.{one-shifted}
 use Rattle.fields.proofs.Sources.{listed-got, listed-wide, listed-past}
-use mathlib.Core.Path.{sym, _∙_}
+use mathlib.Core.Path.{sym}
 use borrow.Author.Needs.{needs}
 use Rattle.fields.proofs.listed_at.Statement.{statement}
 use Rattle.fields.proofs.listed_at.Tie as tie
-use Rattle.fields.proofs.listed_at.Reads as reads
-use Rattle.fields.proofs.listed_at.Lts as lts
-use Rattle.fields.proofs.wide.Reads as wide-reads
 
--- src/lib.rt:42:17
 mul-v : tie.Need-mul-v
 mul-v c = search needs
 
--- src/lib.rt:42:17
 shared-slice-read-v : tie.Need-shared-slice-read-v
 shared-slice-read-v c = search needs
 
--- src/lib.rt:43:12
 wide-requires : tie.Need-wide-requires
 wide-requires c κs = search needs
 
--- src/lib.rt:43:22
 shl-if2 : tie.Need-shl-if2
 shl-if2 c = search needs
 
--- src/lib.rt:44:13
 returns : tie.Need-returns
 returns c = sym (listed-got _ _ _ (c .before .before .before .if1 .taken) (omega (arith, one-shifted (c .before .before .before .before .before .args .w) (omega arith))))
 
--- src/lib.rt:46:9
 returns-2 : tie.Need-returns-2
 returns-2 c = sym (listed-wide _ _ _ (c .before .before .before .if1 .taken) (omega (arith, one-shifted (c .before .before .before .before .before .args .w) (omega arith))))
 
--- src/lib.rt:37:1
 returns-3 : tie.Need-returns-3
 returns-3 c = sym (listed-past _ _ _ (c .if1 .left))
 

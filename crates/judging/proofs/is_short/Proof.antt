@@ -1,10 +1,8 @@
+-- `judging::is_short` meets its contract.
 use Rattle.judging.proofs.Inputs.{says-less}
 use Rattle.judging.proofs.is_short.Statement.{statement}
 use Rattle.judging.proofs.is_short.Tie as tie
-use Rattle.judging.proofs.is_short.Reads as reads
-use Rattle.judging.proofs.is_short.Lts as lts
 
--- src/lib.rt:62:1
 returns : tie.Need-returns
 returns c = says-less _ _
 

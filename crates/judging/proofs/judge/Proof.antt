@@ -1,3 +1,4 @@
+-- `judging::judge` meets its contract.
 use Rattle.judging.proofs.Inputs.{not-less, left-short, left-cleared}
 use Rattle.table.proofs.Comparing.{says-true, says-false}
 use Rattle.verdicts.proofs.Layers.{table-short, table-enough}
@@ -7,43 +8,29 @@ use mathlib.Core.Path.{sym, ap, _∙_}
 use borrow.Author.Needs.{needs}
 use Rattle.judging.proofs.judge.Statement.{statement}
 use Rattle.judging.proofs.judge.Tie as tie
-use Rattle.judging.proofs.judge.Reads as reads
-use Rattle.judging.proofs.judge.Lts as lts
-use Rattle.judging.proofs.is_short.Reads as is-short-reads
-use Rattle.judging.proofs.judge_files.Reads as judge-files-reads
-use Rattle.judging.proofs.refused.Reads as refused-reads
-use Rattle.table.proofs.clear.Reads as clear-reads
 
--- src/lib.rt:73:8
 is-short-requires : tie.Need-is-short-requires
 is-short-requires c κs = search needs
 
--- src/lib.rt:74:9
 refused-requires : tie.Need-refused-requires
 refused-requires c κs = search needs
 
--- src/lib.rt:74:9
 same-length : tie.Need-same-length
 same-length c = search needs
 
--- src/lib.rt:74:9
 returns : tie.Need-returns
 unfolding w-of
 returns c = let h = says-true _ (c .before .before .is-short .ensures) (c .before .if1 .taken) in (c .refused .ensures ∙ sym (table-short _ _ _ h), left-short _ h)
 
--- src/lib.rt:76:9
 judge-files-requires : tie.Need-judge-files-requires
 judge-files-requires c κs = not-less (says-false _ (c .before .before .is-short .ensures) (c .before .if1 .left))
 
--- src/lib.rt:77:5
 clear-requires : tie.Need-clear-requires
 clear-requires c κs = search needs
 
--- src/lib.rt:69:1
 same-length-2 : tie.Need-same-length-2
 same-length-2 c = search needs
 
--- src/lib.rt:69:1
 returns-2 : tie.Need-returns-2
 returns-2 c = let h = not-less (says-false _ (c .before .before .before .before .before .before .before .before .before .is-short .ensures) (c .before .before .before .before .before .before .before .before .if1 .left)) in (c .before .before .before .before .before .before .judge-files .ensures .0 ∙ sym (table-enough _ _ _ h), left-cleared _ h (c .before .before .clear .ensures ∙ ap (λ n. replicate n 0) (c .before .before .before .before .before .before .judge-files .ensures .1)))
 

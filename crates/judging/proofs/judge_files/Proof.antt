@@ -1,3 +1,4 @@
+-- `judging::judge_files` meets its contract.
 use Rattle.verdicts.proofs.Layers.{book-long, certificate-long, both-short, book-refused}
 use Rattle.verdicts.specs.Verdicts.{paper}
 use Rattle.layout.proofs.Answering.{opening-shut}
@@ -9,68 +10,49 @@ use mathlib.Core.Path.{refl, sym, _∙_}
 use borrow.Author.Needs.{needs}
 use Rattle.judging.proofs.judge_files.Statement.{statement}
 use Rattle.judging.proofs.judge_files.Tie as tie
-use Rattle.judging.proofs.judge_files.Reads as reads
-use Rattle.judging.proofs.judge_files.Lts as lts
-use Rattle.judging.proofs.judge_certificate.Reads as judge-certificate-reads
-use Rattle.judging.proofs.refused.Reads as refused-reads
-use Rattle.layout.proofs.open_book.Reads as open-book-reads
 
--- src/lib.rt:48:9
 refused-requires : tie.Need-refused-requires
 refused-requires c κs = search needs
 
--- src/lib.rt:48:9
 returns : tie.Need-returns
 unfolding w-of
 returns c = (c .refused .ensures ∙ sym (book-long _ _ (c .before .if1 .taken)), refl)
 
--- src/lib.rt:51:9
 refused-requires-2 : tie.Need-refused-requires-2
 refused-requires-2 c κs = search needs
 
--- src/lib.rt:51:9
 returns-2 : tie.Need-returns-2
 unfolding w-of
 returns-2 c = (c .refused2 .ensures ∙ sym (certificate-long _ _ (c .before .before .if1 .left) (c .before .if2 .taken)), refl)
 
--- src/lib.rt:54:35
 slice-aggregate-open-book : tie.Need-slice-aggregate-open-book
 slice-aggregate-open-book c = search needs
 
--- src/lib.rt:54:11
 open-book-requires : tie.Need-open-book-requires
 open-book-requires c κs = search needs
 
--- src/lib.rt:55:23
 enum-known-r : tie.Need-enum-known-r
 enum-known-r c = search needs
 
--- src/lib.rt:56:23
 enum-known-m : tie.Need-enum-known-m
 enum-known-m c = search needs
 
--- src/lib.rt:56:59
 array-share-prefix-counts : tie.Need-array-share-prefix-counts
 array-share-prefix-counts c = let h = few-rules (c .before .before .before .before .open-book .ensures) (c .before .m .given .1) in search needs
 
--- src/lib.rt:56:59
 slice-aggregate-judge-certificate : tie.Need-slice-aggregate-judge-certificate
 slice-aggregate-judge-certificate c = let h = few-rules (c .before .before .before .before .before .open-book .ensures) (c .before .before .m .given .1) in omega (arith, length-take (c .before .before .m .given .0 .0) (c .before .before .before .before .before .open-book .last .1 .0))
 
--- src/lib.rt:56:35
 judge-certificate-requires : tie.Need-judge-certificate-requires
 judge-certificate-requires c κs = (is-beside (c .before .before .before .before .before .before .open-book .ensures) (c .before .before .before .m .given .1) refl, omega (arith, c .before .before .before .before .before .before .before .before .if2 .left), c .before .before .before .before .before .before .before .before .before .before .before .before .before .pre)
 
--- src/lib.rt:42:1
 returns-3 : tie.Need-returns-3
 unfolding paper
 returns-3 c = (sym (both-short _ _ (c .before .before .before .before .before .before .before .if1 .left) (c .before .before .before .before .before .before .if2 .left) ∙ book-refused _ _ _ (opening-shut _ _ (c .before .before .before .before .open-book .ensures .told) (c .before .r .given .1))), refl)
 
--- src/lib.rt:42:1
 same-length : tie.Need-same-length
 same-length c = search needs
 
--- src/lib.rt:42:1
 returns-4 : tie.Need-returns-4
 returns-4 c = (c .before .before .judge-certificate .ensures .0 ∙ sym (both-short _ _ (c .before .before .before .before .before .before .before .before .before .before .before .before .if1 .left) (c .before .before .before .before .before .before .before .before .before .before .before .if2 .left)), c .before .before .judge-certificate .ensures .1)
 

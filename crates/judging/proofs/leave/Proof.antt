@@ -1,34 +1,25 @@
+-- `judging::leave` meets its contract.
 use Rattle.judging.proofs.Inputs.{not-less, left-short, left-cleared}
 use Rattle.table.proofs.Comparing.{says-true, says-false}
 use borrow.Author.Needs.{needs}
 use Rattle.judging.proofs.leave.Statement.{statement}
 use Rattle.judging.proofs.leave.Tie as tie
-use Rattle.judging.proofs.leave.Reads as reads
-use Rattle.judging.proofs.leave.Lts as lts
-use Rattle.judging.proofs.is_short.Reads as is-short-reads
-use Rattle.table.proofs.clear.Reads as clear-reads
 
--- src/lib.rt:85:8
 is-short-requires : tie.Need-is-short-requires
 is-short-requires c κs = search needs
 
--- src/lib.rt:86:9
 same-length : tie.Need-same-length
 same-length c = search needs
 
--- src/lib.rt:86:9
 returns : tie.Need-returns
 returns c = left-short _ (says-true _ (c .before .is-short .ensures) (c .if1 .taken))
 
--- src/lib.rt:88:5
 clear-requires : tie.Need-clear-requires
 clear-requires c κs = search needs
 
--- src/lib.rt:82:1
 same-length-2 : tie.Need-same-length-2
 same-length-2 c = search needs
 
--- src/lib.rt:82:1
 returns-2 : tie.Need-returns-2
 returns-2 c = left-cleared _ (not-less (says-false _ (c .before .before .before .before .before .is-short .ensures) (c .before .before .before .before .if1 .left))) (c .before .before .clear .ensures)
 

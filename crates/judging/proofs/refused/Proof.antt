@@ -1,12 +1,10 @@
+-- `judging::refused` meets its contract.
 use Rattle.verdicts.specs.Verdicts.{paper}
 use Rattle.layout.specs.Answers.{paper-refusal}
 use mathlib.Core.Path.{refl}
 use Rattle.judging.proofs.refused.Statement.{statement}
 use Rattle.judging.proofs.refused.Tie as tie
-use Rattle.judging.proofs.refused.Reads as reads
-use Rattle.judging.proofs.refused.Lts as lts
 
--- src/lib.rt:18:1
 returns : tie.Need-returns
 unfolding paper paper-refusal
 returns c = refl

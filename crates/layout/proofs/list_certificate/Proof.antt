@@ -1,3 +1,4 @@
+-- `layout::list_certificate` meets its contract.
 use Rattle.layout.proofs.Giving.{certificate-is, bad-listed, good-listed, good-length, listed-after}
 use Rattle.layout.proofs.Opens.{in-bytes}
 use Rattle.layout.proofs.Answering.{answers-shut, answers-short, answers-filled, opening-shut, opening-good}
@@ -11,54 +12,38 @@ use mathlib.Core.Path.{sym, _∙_}
 use borrow.Author.Needs.{needs}
 use Rattle.layout.proofs.list_certificate.Statement.{statement}
 use Rattle.layout.proofs.list_certificate.Tie as tie
-use Rattle.layout.proofs.list_certificate.Reads as reads
-use Rattle.layout.proofs.list_certificate.Lts as lts
-use Rattle.certificates.proofs.certificate.Reads as certificate-reads
-use Rattle.layout.proofs.open_certificate.Reads as open-certificate-reads
-use Rattle.layout.proofs.refused.Reads as refused-reads
 
--- src/lib.rt:217:11
 open-certificate-requires : tie.Need-open-certificate-requires
 open-certificate-requires c κs = search needs
 
--- src/lib.rt:218:23
 enum-known-r : tie.Need-enum-known-r
 enum-known-r c = search needs
 
--- src/lib.rt:219:26
 enum-known-n : tie.Need-enum-known-n
 enum-known-n c = search needs
 
--- src/lib.rt:221:17
 refused-requires : tie.Need-refused-requires
 refused-requires c κs = search needs
 
--- src/lib.rt:221:17
 returns : tie.Need-returns
 unfolding w-of
 returns c = let g = opening-good _ _ (c .before .before .before .before .before .open-certificate .ensures .told _ _ (c .before .before .before .before .before .before .before .before .before .before .pre .0 .opened)) (c .before .before .before .n .given .1) in let e = good-length g in answers-short _ _ _ _ (certificate-is _ _ (c .before .before .before .before .before .before .before .before .before .before .pre .0) _ ∙ good-listed g) (omega (arith, c .before .if1 .taken)) (c .refused .ensures)
 
--- src/lib.rt:230:69
 slice-aggregate-certificate : tie.Need-slice-aggregate-certificate
 slice-aggregate-certificate c = search needs
 
--- src/lib.rt:230:81
 slice-aggregate-certificate-2 : tie.Need-slice-aggregate-certificate-2
 slice-aggregate-certificate-2 c = search needs
 
--- src/lib.rt:230:17
 certificate-requires : tie.Need-certificate-requires
 certificate-requires c κs = few-counts _ [] _ (c .before .before .before .before .before .before .before .before .before .before .before .before .pre .0)
 
--- src/lib.rt:212:1
 returns-2 : tie.Need-returns-2
 returns-2 c = answers-shut _ _ _ _ (certificate-is _ _ (c .before .before .before .before .before .before .before .before .pre .0) _ ∙ bad-listed _ (opening-shut _ _ (c .before .before .before .open-certificate .ensures .told _ _ (c .before .before .before .before .before .before .before .before .pre .0 .opened)) (c .before .r .given .1)))
 
--- src/lib.rt:212:1
 same-length : tie.Need-same-length
 same-length c = search needs
 
--- src/lib.rt:212:1
 returns-3 : tie.Need-returns-3
 unfolding open-certificate
 returns-3 c = let g = opening-good _ _ (c .before .before .before .before .before .before .before .before .before .before .before .open-certificate .ensures .told _ _ (c .before .before .before .before .before .before .before .before .before .before .before .before .before .before .before .before .pre .0 .opened)) (c .before .before .before .before .before .before .before .before .before .n .given .1) in let e = good-length g in answers-filled _ _ _ (certificate-is _ _ (c .before .before .before .before .before .before .before .before .before .before .before .before .before .before .before .before .pre .0) _ ∙ good-listed g) (omega (arith, c .before .before .before .before .before .before .before .if1 .left)) (sym e) (listed-after (certificate-of (c .before .before .before .before .before .before .before .before .before .before .before .before .before .before .before .before .pre .0 .tree)) (in-bytes certificate-place _ _ (g .is)) (beside-ran _ _ _ (c .before .before .before .before .before .before .before .before .before .before .before .before .before .before .before .before .pre .0) (c .before .before .before .certificate .ensures)) (omega (arith, c .before .before .before .before .before .before .before .if1 .left)))

@@ -1,37 +1,27 @@
+-- `layout::open_certificate` meets its contract.
 use Rattle.layout.proofs.Giving.{certificate-opened}
 use Rattle.layout.proofs.FileEnds.{inside-bytes}
 use Rattle.layout.proofs.Besides.{few-counts, beside-ran}
-use Rattle.layout.specs.Answers.{w-of}
 use mathlib.Core.List.{[]}
 use borrow.Author.Needs.{needs}
 use Rattle.layout.proofs.open_certificate.Statement.{statement}
 use Rattle.layout.proofs.open_certificate.Tie as tie
-use Rattle.layout.proofs.open_certificate.Reads as reads
-use Rattle.layout.proofs.open_certificate.Lts as lts
-use Rattle.certificates.proofs.certificate.Reads as certificate-reads
-use Rattle.layout.proofs.opened.Reads as opened-reads
 
--- src/lib.rt:207:56
 slice-aggregate-certificate : tie.Need-slice-aggregate-certificate
 slice-aggregate-certificate c = search needs
 
--- src/lib.rt:207:63
 slice-aggregate-certificate-2 : tie.Need-slice-aggregate-certificate-2
 slice-aggregate-certificate-2 c = search needs
 
--- src/lib.rt:207:75
 slice-aggregate-certificate-3 : tie.Need-slice-aggregate-certificate-3
 slice-aggregate-certificate-3 c = search needs
 
--- src/lib.rt:207:9
 certificate-requires : tie.Need-certificate-requires
 certificate-requires c κs = few-counts _ [] _ (c .before .before .before .before .before .before .pre .0)
 
--- src/lib.rt:208:5
 opened-requires : tie.Need-opened-requires
 opened-requires c κs = (c .before .before .before .before .before .before .before .before .before .pre .1, inside-bytes _ _ _ (beside-ran _ _ _ (c .before .before .before .before .before .before .before .before .before .pre .0) (c .before .before .certificate .ensures)))
 
--- src/lib.rt:195:1
 returns : tie.Need-returns
 returns c = certificate-opened _ _ (c .before .before .before .before .before .before .before .before .before .before .pre .0) _ (c .before .before .before .certificate .ensures) (c .opened .ensures)
 

@@ -1,27 +1,21 @@
+-- `layout::opened_list` meets its contract.
 use Rattle.layout.proofs.FileEnds.{list-good, list-left, list-no}
 use borrow.Author.Needs.{needs}
 use Rattle.layout.proofs.opened_list.Statement.{statement}
 use Rattle.layout.proofs.opened_list.Tie as tie
-use Rattle.layout.proofs.opened_list.Reads as reads
-use Rattle.layout.proofs.opened_list.Lts as lts
 
--- src/lib.rt:96:18
 enum-known-w : tie.Need-enum-known-w
 enum-known-w c = search needs
 
--- src/lib.rt:102:18
 enum-known-w-2 : tie.Need-enum-known-w-2
 enum-known-w-2 c = search needs
 
--- src/lib.rt:105:17
 returns : tie.Need-returns
 returns c = list-good _ _ (c .before .before .w2 .given .1) (c .if1 .taken)
 
--- src/lib.rt:92:1
 returns-2 : tie.Need-returns-2
 returns-2 c = list-no _ _ (c .before .w .given .1)
 
--- src/lib.rt:92:1
 returns-3 : tie.Need-returns-3
 returns-3 c = list-left _ _ (c .before .before .w2 .given .1) (c .if1 .left)
 

@@ -1,4 +1,5 @@
-use mathlib.Core.Path.{refl, sym, _∙_}
+-- `layout::pack_certificate` meets its contract.
+use mathlib.Core.Path.{_∙_}
 use mathlib.Core.List.{[]}
 use native.Mathlib.Omega.{arith}
 use Rattle.patterns.specs.Refusal.{certificate-place}
@@ -13,88 +14,64 @@ use Rattle.layout.proofs.Giving.{list-told, writing-is, bad-written, go
 use borrow.Author.Needs.{needs}
 use Rattle.layout.proofs.pack_certificate.Statement.{statement}
 use Rattle.layout.proofs.pack_certificate.Tie as tie
-use Rattle.layout.proofs.pack_certificate.Reads as reads
-use Rattle.layout.proofs.pack_certificate.Lts as lts
-use Rattle.certificates.proofs.certificate.Reads as certificate-reads
-use Rattle.layout.proofs.opened_list.Reads as opened-list-reads
-use Rattle.layout.proofs.refused.Reads as refused-reads
 
--- src/lib.rt:253:53
 slice-aggregate-certificate : tie.Need-slice-aggregate-certificate
 slice-aggregate-certificate c = search needs
 
--- src/lib.rt:253:68
 slice-aggregate-certificate-2 : tie.Need-slice-aggregate-certificate-2
 slice-aggregate-certificate-2 c = search needs
 
--- src/lib.rt:253:80
 slice-aggregate-certificate-3 : tie.Need-slice-aggregate-certificate-3
 slice-aggregate-certificate-3 c = search needs
 
--- src/lib.rt:253:9
 certificate-requires : tie.Need-certificate-requires
 certificate-requires c κs = few-counts _ [] _ (c .before .before .before .before .before .before .before .pre)
 
--- src/lib.rt:254:11
 opened-list-requires : tie.Need-opened-list-requires
 opened-list-requires c κs = search needs
 
--- src/lib.rt:255:23
 enum-known-r : tie.Need-enum-known-r
 enum-known-r c = search needs
 
--- src/lib.rt:256:29
 enum-known-k : tie.Need-enum-known-k
 enum-known-k c = search needs
 
--- src/lib.rt:257:30
 add-n : tie.Need-add-n
 add-n c = search needs
 
--- src/lib.rt:257:21
 add-n-2 : tie.Need-add-n-2
 add-n-2 c = search needs
 
--- src/lib.rt:259:17
 refused-requires : tie.Need-refused-requires
 refused-requires c κs = search needs
 
--- src/lib.rt:259:17
 returns : tie.Need-returns
 unfolding w-of
 returns c = let g = opening-good _ _ (list-told _ (certificate-of (c .before .before .before .before .before .before .before .before .before .before .before .before .before .before .before .before .pre .tree)) nothing _ Certificate (beside-ran _ _ _ (c .before .before .before .before .before .before .before .before .before .before .before .before .before .before .before .before .pre) (c .before .before .before .before .before .before .before .before .certificate .ensures)) (c .before .before .before .before .before .opened-list .ensures)) (c .before .before .before .k .given .1) in answers-refusal _ _ _ _ (writing-is _ _ (c .before .before .before .before .before .before .before .before .before .before .before .before .before .before .before .before .pre) _ ∙ good-over g certificate-place 32768 (omega (arith, c .before .if1 .taken))) (c .refused .ensures)
 
--- src/lib.rt:262:17
 refused-requires-2 : tie.Need-refused-requires-2
 refused-requires-2 c κs = search needs
 
--- src/lib.rt:262:17
 returns-2 : tie.Need-returns-2
 unfolding w-of
 returns-2 c = let g = opening-good _ _ (list-told _ (certificate-of (c .before .before .before .before .before .before .before .before .before .before .before .before .before .before .before .before .before .pre .tree)) nothing _ Certificate (beside-ran _ _ _ (c .before .before .before .before .before .before .before .before .before .before .before .before .before .before .before .before .before .pre) (c .before .before .before .before .before .before .before .before .before .certificate .ensures)) (c .before .before .before .before .before .before .opened-list .ensures)) (c .before .before .before .before .k .given .1) in let e = good-bytes g in answers-short _ _ _ _ (writing-is _ _ (c .before .before .before .before .before .before .before .before .before .before .before .before .before .before .before .before .before .pre) _ ∙ good-written g certificate-place 32768 (omega (arith, c .before .before .if1 .left))) (omega (arith, c .before .if2 .taken)) (c .refused2 .ensures)
 
--- src/lib.rt:264:66
 slice-aggregate-certificate-4 : tie.Need-slice-aggregate-certificate-4
 slice-aggregate-certificate-4 c = search needs
 
--- src/lib.rt:264:81
 slice-aggregate-certificate-5 : tie.Need-slice-aggregate-certificate-5
 slice-aggregate-certificate-5 c = search needs
 
--- src/lib.rt:264:17
 certificate-requires-2 : tie.Need-certificate-requires-2
 certificate-requires-2 c κs = few-counts _ [] _ (c .before .before .before .before .before .before .before .before .before .before .before .before .before .before .before .before .before .before .before .pre)
 
--- src/lib.rt:240:1
 returns-3 : tie.Need-returns-3
 unfolding w-of
 returns-3 c = answers-shut _ _ _ _ (writing-is _ _ (c .before .before .before .before .before .before .before .before .before .before .before .before .before .before .pre) _ ∙ bad-written certificate-place 32768 _ (opening-shut _ _ (list-told _ (certificate-of (c .before .before .before .before .before .before .before .before .before .before .before .before .before .before .pre .tree)) nothing _ Certificate (beside-ran _ _ _ (c .before .before .before .before .before .before .before .before .before .before .before .before .before .before .pre) (c .before .before .before .before .before .before .certificate .ensures)) (c .before .before .before .opened-list .ensures)) (c .before .r .given .1)))
 
--- src/lib.rt:240:1
 same-length : tie.Need-same-length
 same-length c = search needs
 
--- src/lib.rt:240:1
 returns-4 : tie.Need-returns-4
 unfolding w-of
 returns-4 c = let g = opening-good _ _ (list-told _ (certificate-of (c .before .before .before .before .before .before .before .before .before .before .before .before .before .before .before .before .before .before .before .before .before .before .before .pre .tree)) nothing _ Certificate (beside-ran _ _ _ (c .before .before .before .before .before .before .before .before .before .before .before .before .before .before .before .before .before .before .before .before .before .before .before .pre) (c .before .before .before .before .before .before .before .before .before .before .before .before .before .before .before .certificate .ensures)) (c .before .before .before .before .before .before .before .before .before .before .before .before .opened-list .ensures)) (c .before .before .before .before .before .before .before .before .before .before .k .given .1) in let e = good-bytes g in answers-filled _ _ _ (writing-is _ _ (c .before .before .before .before .before .before .before .before .before .before .before .before .before .before .before .before .before .before .before .before .before .before .before .pre) _ ∙ good-written g certificate-place 32768 (omega (arith, c .before .before .before .before .before .before .before .before .if1 .left))) (omega (arith, c .before .before .before .before .before .before .before .if2 .left)) (omega arith) (packed-after (certificate-of (c .before .before .before .before .before .before .before .before .before .before .before .before .before .before .before .before .before .before .before .before .before .before .before .pre .tree)) (in-list certificate-place _ _ (g .is)) (beside-ran _ _ _ (c .before .before .before .before .before .before .before .before .before .before .before .before .before .before .before .before .before .before .before .before .before .before .before .pre) (c .before .before .before .certificate2 .ensures)) (omega (arith, c .before .before .before .before .before .before .before .if2 .left)) (omega (arith, c .before .before .before .before .before .before .before .before .if1 .left)))

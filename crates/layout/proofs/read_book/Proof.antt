@@ -1,81 +1,62 @@
+-- `layout::read_book` meets its contract.
 use Rattle.layout.proofs.Answering.{answers-shut}
-use mathlib.Core.Path.{refl, sym, _∙_}
+use mathlib.Core.Path.{sym, _∙_}
 use native.Mathlib.Omega.{arith}
 use Rattle.patterns.specs.Refusal.{book-place}
 use Rattle.grammar.specs.Books.{a-book}
 use Rattle.layout.specs.Files.{open-book}
-use Rattle.layout.specs.Answers.{w-of, paper}
+use Rattle.layout.specs.Answers.{w-of}
 use Rattle.layout.proofs.Answering.{answers-refusal, answers-short, answers-filled, opening-shut, opening-good}
 use Rattle.layout.proofs.Opens.{in-bytes}
 use Rattle.layout.proofs.Giving.{book-too-long, book-read, bad-listed, good-listed, good-length, listed-after}
 use borrow.Author.Needs.{needs}
 use Rattle.layout.proofs.read_book.Statement.{statement}
 use Rattle.layout.proofs.read_book.Tie as tie
-use Rattle.layout.proofs.read_book.Reads as reads
-use Rattle.layout.proofs.read_book.Lts as lts
-use Rattle.books.proofs.book.Reads as book-reads
-use Rattle.layout.proofs.open_book.Reads as open-book-reads
-use Rattle.layout.proofs.refused.Reads as refused-reads
 
--- src/lib.rt:148:9
 refused-requires : tie.Need-refused-requires
 refused-requires c κs = search needs
 
--- src/lib.rt:148:9
 returns : tie.Need-returns
 unfolding w-of
 returns c = answers-refusal _ _ _ _ (book-too-long _ (c .before .if1 .taken)) (c .refused .ensures)
 
--- src/lib.rt:151:27
 slice-aggregate-open-book : tie.Need-slice-aggregate-open-book
 slice-aggregate-open-book c = search needs
 
--- src/lib.rt:151:11
 open-book-requires : tie.Need-open-book-requires
 open-book-requires c κs = search needs
 
--- src/lib.rt:152:23
 enum-known-r : tie.Need-enum-known-r
 enum-known-r c = search needs
 
--- src/lib.rt:153:26
 enum-known-n : tie.Need-enum-known-n
 enum-known-n c = search needs
 
--- src/lib.rt:155:17
 refused-requires-2 : tie.Need-refused-requires-2
 refused-requires-2 c κs = search needs
 
--- src/lib.rt:155:17
 returns-2 : tie.Need-returns-2
 unfolding w-of
 returns-2 c = let g = opening-good _ _ (c .before .before .before .before .before .before .open-book .ensures .told) (c .before .before .before .n .given .1) in let e = good-length g in answers-short _ _ _ _ (book-read _ (c .before .before .before .before .before .before .before .before .if1 .left) ∙ good-listed g) (omega (arith, c .before .if2 .taken)) (c .refused2 .ensures)
 
--- src/lib.rt:159:51
 slice-aggregate-book : tie.Need-slice-aggregate-book
 slice-aggregate-book c = search needs
 
--- src/lib.rt:159:63
 slice-aggregate-book-2 : tie.Need-slice-aggregate-book-2
 slice-aggregate-book-2 c = search needs
 
--- src/lib.rt:159:75
 slice-aggregate-book-3 : tie.Need-slice-aggregate-book-3
 slice-aggregate-book-3 c = search needs
 
--- src/lib.rt:159:17
 book-requires : tie.Need-book-requires
 book-requires c κs = search needs
 
--- src/lib.rt:143:1
 returns-3 : tie.Need-returns-3
 returns-3 c = answers-shut _ _ _ _ (book-read _ (c .before .before .before .before .before .before .if1 .left) ∙ bad-listed _ (opening-shut _ _ (c .before .before .before .before .open-book .ensures .told) (c .before .r .given .1)))
 
--- src/lib.rt:143:1
 same-length : tie.Need-same-length
 same-length c = search needs
 
--- src/lib.rt:143:1
 returns-4 : tie.Need-returns-4
 unfolding open-book
 returns-4 c = let g = opening-good _ _ (c .before .before .before .before .before .before .before .before .before .before .before .before .before .before .open-book .ensures .told) (c .before .before .before .before .before .before .before .before .before .before .before .n .given .1) in let e = good-length g in answers-filled _ _ _ (book-read _ (c .before .before .before .before .before .before .before .before .before .before .before .before .before .before .before .before .if1 .left) ∙ good-listed g) (omega (arith, c .before .before .before .before .before .before .before .before .before .if2 .left)) (sym e) (listed-after a-book (in-bytes book-place a-book _ (g .is)) (c .before .before .before .before .book .ensures .0) (omega (arith, c .before .before .before .before .before .before .before .before .before .if2 .left)))

@@ -1,5 +1,6 @@
+-- `layout::read_certificate` meets its contract.
 use lib.ListN.{length-take}
-use mathlib.Core.Path.{refl, sym, _∙_}
+use mathlib.Core.Path.{refl, _∙_}
 use native.Mathlib.Omega.{arith}
 use Rattle.layout.specs.Answers.{w-of}
 use Rattle.layout.proofs.Besides.{few-rules, is-beside}
@@ -8,67 +9,48 @@ use Rattle.layout.proofs.Giving.{certificate-book-long, certificate-lon
 use borrow.Author.Needs.{needs}
 use Rattle.layout.proofs.read_certificate.Statement.{statement}
 use Rattle.layout.proofs.read_certificate.Tie as tie
-use Rattle.layout.proofs.read_certificate.Reads as reads
-use Rattle.layout.proofs.read_certificate.Lts as lts
-use Rattle.layout.proofs.list_certificate.Reads as list-certificate-reads
-use Rattle.layout.proofs.open_book.Reads as open-book-reads
-use Rattle.layout.proofs.refused.Reads as refused-reads
 
--- src/lib.rt:227:9
 refused-requires : tie.Need-refused-requires
 refused-requires c κs = search needs
 
--- src/lib.rt:227:9
 returns : tie.Need-returns
 unfolding w-of
 returns c = answers-refusal _ _ _ _ (certificate-book-long _ _ (c .before .if1 .taken)) (c .refused .ensures)
 
--- src/lib.rt:230:9
 refused-requires-2 : tie.Need-refused-requires-2
 refused-requires-2 c κs = search needs
 
--- src/lib.rt:230:9
 returns-2 : tie.Need-returns-2
 unfolding w-of
 returns-2 c = answers-refusal _ _ _ _ (certificate-long _ _ (c .before .before .if1 .left) (c .before .if2 .taken)) (c .refused2 .ensures)
 
--- src/lib.rt:233:27
 slice-aggregate-open-book : tie.Need-slice-aggregate-open-book
 slice-aggregate-open-book c = search needs
 
--- src/lib.rt:233:11
 open-book-requires : tie.Need-open-book-requires
 open-book-requires c κs = search needs
 
--- src/lib.rt:234:23
 enum-known-r : tie.Need-enum-known-r
 enum-known-r c = search needs
 
--- src/lib.rt:235:23
 enum-known-m : tie.Need-enum-known-m
 enum-known-m c = search needs
 
--- src/lib.rt:235:58
 array-share-prefix-counts : tie.Need-array-share-prefix-counts
 array-share-prefix-counts c = let h = few-rules (c .before .before .before .before .open-book .ensures) (c .before .m .given .1) in search needs
 
--- src/lib.rt:235:58
 slice-aggregate-list-certificate : tie.Need-slice-aggregate-list-certificate
 slice-aggregate-list-certificate c = let h = few-rules (c .before .before .before .before .before .open-book .ensures) (c .before .before .m .given .1) in omega (arith, length-take (c .before .before .m .given .0 .0) (c .before .before .before .before .before .open-book .last .1 .0))
 
--- src/lib.rt:235:35
 list-certificate-requires : tie.Need-list-certificate-requires
 list-certificate-requires c κs = (is-beside (c .before .before .before .before .before .before .open-book .ensures) (c .before .before .before .m .given .1) refl, omega (arith, c .before .before .before .before .before .before .before .before .if2 .left))
 
--- src/lib.rt:222:1
 returns-3 : tie.Need-returns-3
 returns-3 c = answers-shut _ _ _ _ (certificate-read _ _ (c .before .before .before .before .before .before .before .if1 .left) (c .before .before .before .before .before .before .if2 .left) ∙ listing-bad _ _ (opening-shut _ _ (c .before .before .before .before .open-book .ensures .told) (c .before .r .given .1)))
 
--- src/lib.rt:222:1
 same-length : tie.Need-same-length
 same-length c = search needs
 
--- src/lib.rt:222:1
 returns-4 : tie.Need-returns-4
 returns-4 c = rw (certificate-read _ _ (c .before .before .before .before .before .before .before .before .before .before .before .before .if1 .left) (c .before .before .before .before .before .before .before .before .before .before .before .if2 .left)) (c .before .before .list-certificate .ensures)
 

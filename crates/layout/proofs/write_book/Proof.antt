@@ -1,4 +1,4 @@
-use mathlib.Core.Path.{refl, sym, _∙_, subst}
+-- `layout::write_book` meets its contract.
 use native.Mathlib.Omega.{arith}
 use Rattle.patterns.specs.Refusal.{book-place}
 use Rattle.grammar.specs.Books.{a-book}
@@ -11,96 +11,70 @@ use Rattle.layout.proofs.Giving.{list-told, bad-written, good-over, goo
 use borrow.Author.Needs.{needs}
 use Rattle.layout.proofs.write_book.Statement.{statement}
 use Rattle.layout.proofs.write_book.Tie as tie
-use Rattle.layout.proofs.write_book.Reads as reads
-use Rattle.layout.proofs.write_book.Lts as lts
-use Rattle.books.proofs.book.Reads as book-reads
-use Rattle.layout.proofs.opened_list.Reads as opened-list-reads
-use Rattle.layout.proofs.refused.Reads as refused-reads
 
--- src/lib.rt:174:31
 slice-aggregate-book : tie.Need-slice-aggregate-book
 slice-aggregate-book c = search needs
 
--- src/lib.rt:174:46
 slice-aggregate-book-2 : tie.Need-slice-aggregate-book-2
 slice-aggregate-book-2 c = search needs
 
--- src/lib.rt:174:58
 slice-aggregate-book-3 : tie.Need-slice-aggregate-book-3
 slice-aggregate-book-3 c = search needs
 
--- src/lib.rt:174:70
 slice-aggregate-book-4 : tie.Need-slice-aggregate-book-4
 slice-aggregate-book-4 c = search needs
 
--- src/lib.rt:174:9
 book-requires : tie.Need-book-requires
 book-requires c κs = search needs
 
--- src/lib.rt:175:11
 opened-list-requires : tie.Need-opened-list-requires
 opened-list-requires c κs = search needs
 
--- src/lib.rt:176:23
 enum-known-r : tie.Need-enum-known-r
 enum-known-r c = search needs
 
--- src/lib.rt:177:29
 enum-known-k : tie.Need-enum-known-k
 enum-known-k c = search needs
 
--- src/lib.rt:178:30
 add-n : tie.Need-add-n
 add-n c = search needs
 
--- src/lib.rt:178:21
 add-n-2 : tie.Need-add-n-2
 add-n-2 c = search needs
 
--- src/lib.rt:180:17
 refused-requires : tie.Need-refused-requires
 refused-requires c κs = search needs
 
--- src/lib.rt:180:17
 returns : tie.Need-returns
 unfolding w-of writing-book
 returns c = let g = opening-good _ _ (list-told _ a-book ruleCount _ Book (c .before .before .before .before .before .before .before .before .before .book .ensures .0) (c .before .before .before .before .before .opened-list .ensures)) (c .before .before .before .k .given .1) in answers-refusal _ _ _ _ (good-over g book-place 16384 (omega (arith, c .before .if1 .taken))) (c .refused .ensures)
 
--- src/lib.rt:183:17
 refused-requires-2 : tie.Need-refused-requires-2
 refused-requires-2 c κs = search needs
 
--- src/lib.rt:183:17
 returns-2 : tie.Need-returns-2
 unfolding w-of writing-book
 returns-2 c = let g = opening-good _ _ (list-told _ a-book ruleCount _ Book (c .before .before .before .before .before .before .before .before .before .before .book .ensures .0) (c .before .before .before .before .before .before .opened-list .ensures)) (c .before .before .before .before .k .given .1) in let e = good-bytes g in answers-short _ _ _ _ (good-written g book-place 16384 (omega (arith, c .before .before .if1 .left))) (omega (arith, c .before .if2 .taken)) (c .refused2 .ensures)
 
--- src/lib.rt:185:44
 slice-aggregate-book-5 : tie.Need-slice-aggregate-book-5
 slice-aggregate-book-5 c = search needs
 
--- src/lib.rt:185:59
 slice-aggregate-book-6 : tie.Need-slice-aggregate-book-6
 slice-aggregate-book-6 c = search needs
 
--- src/lib.rt:185:76
 slice-aggregate-book-7 : tie.Need-slice-aggregate-book-7
 slice-aggregate-book-7 c = search needs
 
--- src/lib.rt:185:17
 book-requires-2 : tie.Need-book-requires-2
 book-requires-2 c κs = search needs
 
--- src/lib.rt:166:1
 returns-3 : tie.Need-returns-3
 unfolding w-of writing-book
 returns-3 c = answers-shut _ _ _ _ (bad-written book-place 16384 _ (opening-shut _ _ (list-told _ a-book ruleCount _ Book (c .before .before .before .before .before .before .before .book .ensures .0) (c .before .before .before .opened-list .ensures)) (c .before .r .given .1)))
 
--- src/lib.rt:166:1
 same-length : tie.Need-same-length
 same-length c = search needs
 
--- src/lib.rt:166:1
 returns-4 : tie.Need-returns-4
 unfolding w-of writing-book
 returns-4 c = let g = opening-good _ _ (list-told _ a-book ruleCount _ Book (c .before .before .before .before .before .before .before .before .before .before .before .before .before .before .before .before .before .before .book .ensures .0) (c .before .before .before .before .before .before .before .before .before .before .before .before .before .before .opened-list .ensures)) (c .before .before .before .before .before .before .before .before .before .before .before .before .k .given .1) in let e = good-bytes g in answers-filled _ _ _ (good-written g book-place 16384 (omega (arith, c .before .before .before .before .before .before .before .before .before .before .if1 .left))) (omega (arith, c .before .before .before .before .before .before .before .before .before .if2 .left)) (omega arith) (packed-after a-book (in-list book-place a-book _ (g .is)) (c .before .before .before .before .book2 .ensures .0) (omega (arith, c .before .before .before .before .before .before .before .before .before .if2 .left)) (omega (arith, c .before .before .before .before .before .before .before .before .before .before .if1 .left)))

@@ -1,5 +1,6 @@
+-- `layout::write_certificate` meets its contract.
 use lib.ListN.{length-take}
-use mathlib.Core.Path.{refl, sym, _∙_}
+use mathlib.Core.Path.{refl, _∙_}
 use native.Mathlib.Omega.{arith}
 use Rattle.layout.specs.Answers.{w-of}
 use Rattle.layout.proofs.Besides.{few-rules, is-beside}
@@ -8,58 +9,41 @@ use Rattle.layout.proofs.Giving.{writing-book-long, certificate-written
 use borrow.Author.Needs.{needs}
 use Rattle.layout.proofs.write_certificate.Statement.{statement}
 use Rattle.layout.proofs.write_certificate.Tie as tie
-use Rattle.layout.proofs.write_certificate.Reads as reads
-use Rattle.layout.proofs.write_certificate.Lts as lts
-use Rattle.layout.proofs.open_book.Reads as open-book-reads
-use Rattle.layout.proofs.pack_certificate.Reads as pack-certificate-reads
-use Rattle.layout.proofs.refused.Reads as refused-reads
 
--- src/lib.rt:276:9
 refused-requires : tie.Need-refused-requires
 refused-requires c κs = search needs
 
--- src/lib.rt:276:9
 returns : tie.Need-returns
 unfolding w-of
 returns c = answers-refusal _ _ _ _ (writing-book-long _ _ (c .before .if1 .taken)) (c .refused .ensures)
 
--- src/lib.rt:279:27
 slice-aggregate-open-book : tie.Need-slice-aggregate-open-book
 slice-aggregate-open-book c = search needs
 
--- src/lib.rt:279:11
 open-book-requires : tie.Need-open-book-requires
 open-book-requires c κs = search needs
 
--- src/lib.rt:280:23
 enum-known-r : tie.Need-enum-known-r
 enum-known-r c = search needs
 
--- src/lib.rt:281:23
 enum-known-m : tie.Need-enum-known-m
 enum-known-m c = search needs
 
--- src/lib.rt:281:58
 array-share-prefix-counts : tie.Need-array-share-prefix-counts
 array-share-prefix-counts c = let h = few-rules (c .before .before .before .before .open-book .ensures) (c .before .m .given .1) in search needs
 
--- src/lib.rt:281:58
 slice-aggregate-pack-certificate : tie.Need-slice-aggregate-pack-certificate
 slice-aggregate-pack-certificate c = let h = few-rules (c .before .before .before .before .before .open-book .ensures) (c .before .before .m .given .1) in omega (arith, length-take (c .before .before .m .given .0 .0) (c .before .before .before .before .before .open-book .last .1 .0))
 
--- src/lib.rt:281:35
 pack-certificate-requires : tie.Need-pack-certificate-requires
 pack-certificate-requires c κs = is-beside (c .before .before .before .before .before .before .open-book .ensures) (c .before .before .before .m .given .1) refl
 
--- src/lib.rt:271:1
 returns-2 : tie.Need-returns-2
 returns-2 c = answers-shut _ _ _ _ (certificate-written _ _ (c .before .before .before .before .before .before .if1 .left) ∙ writing-bad _ _ (opening-shut _ _ (c .before .before .before .before .open-book .ensures .told) (c .before .r .given .1)))
 
--- src/lib.rt:271:1
 same-length : tie.Need-same-length
 same-length c = search needs
 
--- src/lib.rt:271:1
 returns-3 : tie.Need-returns-3
 returns-3 c = rw (certificate-written _ _ (c .before .before .before .before .before .before .before .before .before .before .before .if1 .left)) (c .before .before .pack-certificate .ensures)
 

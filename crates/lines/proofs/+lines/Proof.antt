@@ -1,3 +1,4 @@
+-- `lines::lines` meets its contract.
 use Rattle.layout.specs.Answers.{w-of}
 use Rattle.lines.proofs.Certifying.{lines-none, lines-fault, lines-on}
 use borrow.Author.Needs.{needs}
@@ -22,7 +23,6 @@ lines-at t = and 3 lines-kinds.ps (is 3 lines-kinds.ps μ-lines t) lines.Pre
 abbrev lines-below : ℕ → In 3 lines-kinds.ps
 lines-below t = and 3 lines-kinds.ps (falls 3 lines-kinds.ps _<_ μ-lines t) lines.Pre
 
--- src/lib.rt:849:9
 lines-closing-requires : (t : ℕ) → lines-lts.Need-closing-requires (
   closing-reads.Asked,
   closing-reads.Learnt,
@@ -35,7 +35,6 @@ lines-closing-requires : (t : ℕ) → lines-lts.Need-closing-requires (
 ) (lines-at t) lines.Post
 lines-closing-requires t c κs = search needs
 
--- src/lib.rt:849:9
 lines-same-length : (t : ℕ) → lines-lts.Need-same-length (
   closing-reads.Asked,
   closing-reads.Learnt,
@@ -48,7 +47,6 @@ lines-same-length : (t : ℕ) → lines-lts.Need-same-length (
 ) (lines-at t) lines.Post
 lines-same-length t c = search needs
 
--- src/lib.rt:849:9
 lines-returns : (t : ℕ) → lines-lts.Need-returns (
   closing-reads.Asked,
   closing-reads.Learnt,
@@ -61,7 +59,6 @@ lines-returns : (t : ℕ) → lines-lts.Need-returns (
 ) (lines-at t) lines.Post
 lines-returns t c = lines-none (c .before .before .before .before .if1 .taken) (c .before .before .closing .ensures)
 
--- src/lib.rt:851:11
 lines-line-requires : (t : ℕ) → lines-lts.Need-line-requires (
   closing-reads.Asked,
   closing-reads.Learnt,
@@ -74,7 +71,6 @@ lines-line-requires : (t : ℕ) → lines-lts.Need-line-requires (
 ) (lines-at t) lines.Post
 lines-line-requires t c κs = search needs
 
--- src/lib.rt:852:22
 lines-enum-known-number : (t : ℕ) → lines-lts.Need-enum-known-number (
   closing-reads.Asked,
   closing-reads.Learnt,
@@ -87,7 +83,6 @@ lines-enum-known-number : (t : ℕ) → lines-lts.Need-enum-known-number (
 ) (lines-at t) lines.Post
 lines-enum-known-number t c = search needs
 
--- src/lib.rt:852:39
 lines-refused-requires : (t : ℕ) → lines-lts.Need-refused-requires (
   closing-reads.Asked,
   closing-reads.Learnt,
@@ -100,7 +95,6 @@ lines-refused-requires : (t : ℕ) → lines-lts.Need-refused-requires (
 ) (lines-at t) lines.Post
 lines-refused-requires t c κs = search needs
 
--- src/lib.rt:853:21
 lines-enum-known-next : (t : ℕ) → lines-lts.Need-enum-known-next (
   closing-reads.Asked,
   closing-reads.Learnt,
@@ -113,7 +107,6 @@ lines-enum-known-next : (t : ℕ) → lines-lts.Need-enum-known-next (
 ) (lines-at t) lines.Post
 lines-enum-known-next t c = search needs
 
--- src/lib.rt:853:64
 lines-add-lines : (t : ℕ) → lines-lts.Need-add-lines (
   closing-reads.Asked,
   closing-reads.Learnt,
@@ -126,7 +119,6 @@ lines-add-lines : (t : ℕ) → lines-lts.Need-add-lines (
 ) (lines-at t) lines.Post
 lines-add-lines t c = search needs
 
--- src/lib.rt:853:71
 lines-sub-lines : (t : ℕ) → lines-lts.Need-sub-lines (
   closing-reads.Asked,
   closing-reads.Learnt,
@@ -139,7 +131,6 @@ lines-sub-lines : (t : ℕ) → lines-lts.Need-sub-lines (
 ) (lines-at t) lines.Post
 lines-sub-lines t c = search needs
 
--- src/lib.rt:853:30
 lines-lines-requires : (t : ℕ) → lines-lts.Need-lines-requires (
   closing-reads.Asked,
   closing-reads.Learnt,
@@ -152,7 +143,6 @@ lines-lines-requires : (t : ℕ) → lines-lts.Need-lines-requires (
 ) (lines-at t) lines.Post
 lines-lines-requires t c κs = search needs
 
--- src/lib.rt:837:1
 lines-same-length-2 : (t : ℕ) → lines-lts.Need-same-length-2 (
   closing-reads.Asked,
   closing-reads.Learnt,
@@ -165,7 +155,6 @@ lines-same-length-2 : (t : ℕ) → lines-lts.Need-same-length-2 (
 ) (lines-at t) lines.Post
 lines-same-length-2 t c = search needs
 
--- src/lib.rt:837:1
 lines-returns-2 : (t : ℕ) → lines-lts.Need-returns-2 (
   closing-reads.Asked,
   closing-reads.Learnt,
@@ -179,7 +168,6 @@ lines-returns-2 : (t : ℕ) → lines-lts.Need-returns-2 (
 unfolding w-of
 lines-returns-2 t c = lines-fault (c .before .before .before .before .before .before .before .before .if1 .left) (c .before .before .before .before .before .before .before .before .before .before .before .before .pre .1 .1) (c .before .before .before .before .before .before .line .ensures) (c .before .before .number .given .1) (c .refused .ensures)
 
--- src/lib.rt:837:1
 lines-same-length-3 : (t : ℕ) → lines-lts.Need-same-length-3 (
   closing-reads.Asked,
   closing-reads.Learnt,
@@ -192,7 +180,6 @@ lines-same-length-3 : (t : ℕ) → lines-lts.Need-same-length-3 (
 ) (lines-at t) lines.Post
 lines-same-length-3 t c = search needs
 
--- src/lib.rt:837:1
 lines-returns-3 : (t : ℕ) → lines-lts.Need-returns-3 (
   closing-reads.Asked,
   closing-reads.Learnt,

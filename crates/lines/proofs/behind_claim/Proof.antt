@@ -1,33 +1,24 @@
+-- `lines::behind_claim` meets its contract.
 use Rattle.lines.proofs.Certifying.{kind-unfold, kind-descent}
 use borrow.Author.Needs.{needs}
 use Rattle.lines.proofs.behind_claim.Statement.{statement}
 use Rattle.lines.proofs.behind_claim.Tie as tie
-use Rattle.lines.proofs.behind_claim.Reads as reads
-use Rattle.lines.proofs.behind_claim.Lts as lts
-use Rattle.descents.proofs.descent.Reads as descent-reads
-use Rattle.unfolds.proofs.unfold.Reads as unfold-reads
 
--- src/lib.rt:763:14
 unfold-requires : tie.Need-unfold-requires
 unfold-requires c κs = search needs
 
--- src/lib.rt:764:14
 descent-requires : tie.Need-descent-requires
 descent-requires c κs = search needs
 
--- src/lib.rt:750:1
 same-length : tie.Need-same-length
 same-length c = search needs
 
--- src/lib.rt:750:1
 returns : tie.Need-returns
 returns c = kind-unfold (c .before .before .before .before .match .keys1) (c .before .before .«unfold» .ensures)
 
--- src/lib.rt:750:1
 same-length-2 : tie.Need-same-length-2
 same-length-2 c = search needs
 
--- src/lib.rt:750:1
 returns-2 : tie.Need-returns-2
 returns-2 c = kind-descent (c .before .before .before .before .match .rest .1) (c .before .before .descent .ensures)
 

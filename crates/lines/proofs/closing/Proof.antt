@@ -1,42 +1,30 @@
+-- `lines::closing` meets its contract.
 use Rattle.lines.proofs.Certifying.{closing-at}
 use borrow.Author.Needs.{needs}
 use Rattle.lines.proofs.closing.Statement.{statement}
 use Rattle.lines.proofs.closing.Tie as tie
-use Rattle.lines.proofs.closing.Reads as reads
-use Rattle.lines.proofs.closing.Lts as lts
-use Rattle.lines.proofs.closing_by.Reads as closing-by-reads
-use Rattle.checking.proofs.field.Reads as field-reads
-use Rattle.fillings.proofs.list_filling.Reads as list-filling-reads
 
--- src/lib.rt:828:9
 field-requires : tie.Need-field-requires
 field-requires c κs = search needs
 
--- src/lib.rt:829:13
 cast-n : tie.Need-cast-n
 cast-n c = search needs
 
--- src/lib.rt:830:9
 field-requires-2 : tie.Need-field-requires-2
 field-requires-2 c κs = search needs
 
--- src/lib.rt:831:9
 field-requires-3 : tie.Need-field-requires-3
 field-requires-3 c κs = search needs
 
--- src/lib.rt:832:5
 list-filling-requires : tie.Need-list-filling-requires
 list-filling-requires c κs = search needs
 
--- src/lib.rt:833:5
 closing-by-requires : tie.Need-closing-by-requires
 closing-by-requires c κs = search needs
 
--- src/lib.rt:824:1
 same-length : tie.Need-same-length
 same-length c = search needs
 
--- src/lib.rt:824:1
 returns : tie.Need-returns
 returns c = closing-at (c .before .before .before .before .before .before .before .before .before .before .before .field .ensures) (c .before .before .before .before .before .before .before .before .before .field2 .ensures) (c .before .before .before .before .before .before .before .before .field3 .ensures) (c .before .before .before .before .before .before .list-filling .ensures) (c .before .before .closing-by .ensures)
 

@@ -1,3 +1,4 @@
+-- `terms::applied` and `terms::args` and `terms::raised` and `terms::term` meet their contracts.
 use mathlib.Core.Path.{refl}
 use native.Mathlib.Omega.{arith}
 use Rattle.fields.proofs.Seqs.{seq-no, seq-on, seq-at, seq-last}
@@ -63,7 +64,6 @@ term-at t = and 5 term-kinds.ps (is 5 term-kinds.ps μ-term t) term.Pre
 abbrev term-below : ℕ → In 5 term-kinds.ps
 term-below t = and 5 term-kinds.ps (falls 5 term-kinds.ps _<_ μ-term t) term.Pre
 
--- src/lib.rt:236:11
 applied-symbol-requires : (t : ℕ) → applied-lts.Need-symbol-requires (
   symbol-reads.Asked,
   symbol-reads.Learnt,
@@ -72,7 +72,6 @@ applied-symbol-requires : (t : ℕ) → applied-lts.Need-symbol-requires (
 ) (applied-at t) applied.Post
 applied-symbol-requires t c κs = search needs
 
--- src/lib.rt:237:18
 applied-enum-known-m : (t : ℕ) → applied-lts.Need-enum-known-m (
   symbol-reads.Asked,
   symbol-reads.Learnt,
@@ -81,7 +80,6 @@ applied-enum-known-m : (t : ℕ) → applied-lts.Need-enum-known-m (
 ) (applied-at t) applied.Post
 applied-enum-known-m t c = search needs
 
--- src/lib.rt:238:18
 applied-enum-known-n : (t : ℕ) → applied-lts.Need-enum-known-n (
   symbol-reads.Asked,
   symbol-reads.Learnt,
@@ -90,7 +88,6 @@ applied-enum-known-n : (t : ℕ) → applied-lts.Need-enum-known-n (
 ) (applied-at t) applied.Post
 applied-enum-known-n t c = search needs
 
--- src/lib.rt:238:27
 applied-args-requires : (t : ℕ) → applied-lts.Need-args-requires (
   symbol-reads.Asked,
   symbol-reads.Learnt,
@@ -99,7 +96,6 @@ applied-args-requires : (t : ℕ) → applied-lts.Need-args-requires (
 ) (applied-at t) applied.Post
 applied-args-requires t c κs = let h = symbol-few _ (c .before .before .before .before .before .before .before .before .before .symbol .ensures) (c .before .before .before .n .given .1) in search needs
 
--- src/lib.rt:224:1
 applied-same-length : (t : ℕ) → applied-lts.Need-same-length (
   symbol-reads.Asked,
   symbol-reads.Learnt,
@@ -108,7 +104,6 @@ applied-same-length : (t : ℕ) → applied-lts.Need-same-length (
 ) (applied-at t) applied.Post
 applied-same-length t c = search needs
 
--- src/lib.rt:224:1
 applied-same-length-2 : (t : ℕ) → applied-lts.Need-same-length-2 (
   symbol-reads.Asked,
   symbol-reads.Learnt,
@@ -117,7 +112,6 @@ applied-same-length-2 : (t : ℕ) → applied-lts.Need-same-length-2 (
 ) (applied-at t) applied.Post
 applied-same-length-2 t c = search needs
 
--- src/lib.rt:224:1
 applied-returns : (t : ℕ) → applied-lts.Need-returns (
   symbol-reads.Asked,
   symbol-reads.Learnt,
@@ -127,7 +121,6 @@ applied-returns : (t : ℕ) → applied-lts.Need-returns (
 unfolding an-applied
 applied-returns t c = λ deep h. seq-no (c .before .before .before .before .before .before .before .symbol .ensures) _ (c .before .m .given .1)
 
--- src/lib.rt:224:1
 applied-same-length-3 : (t : ℕ) → applied-lts.Need-same-length-3 (
   symbol-reads.Asked,
   symbol-reads.Learnt,
@@ -136,7 +129,6 @@ applied-same-length-3 : (t : ℕ) → applied-lts.Need-same-length-3 (
 ) (applied-at t) applied.Post
 applied-same-length-3 t c = search needs
 
--- src/lib.rt:224:1
 applied-same-length-4 : (t : ℕ) → applied-lts.Need-same-length-4 (
   symbol-reads.Asked,
   symbol-reads.Learnt,
@@ -145,7 +137,6 @@ applied-same-length-4 : (t : ℕ) → applied-lts.Need-same-length-4 (
 ) (applied-at t) applied.Post
 applied-same-length-4 t c = search needs
 
--- src/lib.rt:224:1
 applied-returns-2 : (t : ℕ) → applied-lts.Need-returns-2 (
   symbol-reads.Asked,
   symbol-reads.Learnt,
@@ -155,13 +146,11 @@ applied-returns-2 : (t : ℕ) → applied-lts.Need-returns-2 (
 unfolding an-applied
 applied-returns-2 t c = λ deep h. seq-on (c .before .before .before .before .before .before .before .before .before .before .before .before .before .before .symbol .ensures) _ (c .before .before .before .before .before .before .before .before .n .given .1) (λ f q. seq-last _ (λ g. refl) (rw q (c .before .before .before .before .args2 .ensures deep h)))
 
--- src/lib.rt:277:9
 args-returns :
     (t : ℕ) →
     args-lts.Need-returns (term-below t, term.Post, args-below t, args.Post) (args-at t) args.Post
 args-returns t c = λ deep h. args-none _ _ _ (c .if1 .taken)
 
--- src/lib.rt:279:11
 args-term-requires : (t : ℕ) → args-lts.Need-term-requires (
   term-below t,
   term.Post,
@@ -170,7 +159,6 @@ args-term-requires : (t : ℕ) → args-lts.Need-term-requires (
 ) (args-at t) args.Post
 args-term-requires t c κs = search needs
 
--- src/lib.rt:280:18
 args-enum-known-m : (t : ℕ) → args-lts.Need-enum-known-m (
   term-below t,
   term.Post,
@@ -179,7 +167,6 @@ args-enum-known-m : (t : ℕ) → args-lts.Need-enum-known-m (
 ) (args-at t) args.Post
 args-enum-known-m t c = search needs
 
--- src/lib.rt:281:18
 args-enum-known-k : (t : ℕ) → args-lts.Need-enum-known-k (
   term-below t,
   term.Post,
@@ -188,7 +175,6 @@ args-enum-known-k : (t : ℕ) → args-lts.Need-enum-known-k (
 ) (args-at t) args.Post
 args-enum-known-k t c = search needs
 
--- src/lib.rt:281:67
 args-sub-args : (t : ℕ) → args-lts.Need-sub-args (
   term-below t,
   term.Post,
@@ -197,7 +183,6 @@ args-sub-args : (t : ℕ) → args-lts.Need-sub-args (
 ) (args-at t) args.Post
 args-sub-args t c = search needs
 
--- src/lib.rt:281:27
 args-args-requires : (t : ℕ) → args-lts.Need-args-requires (
   term-below t,
   term.Post,
@@ -206,7 +191,6 @@ args-args-requires : (t : ℕ) → args-lts.Need-args-requires (
 ) (args-at t) args.Post
 args-args-requires t c κs = let h = term-left _ _ _ _ _ _ (c .before .before .before .before .before .before .before .before .before .term .ensures (c .before .before .before .before .before .before .before .before .before .before .before .before .before .before .before .before .before .before .args .left) (omega arith)) (c .before .before .before .k .given .1) in search needs
 
--- src/lib.rt:263:1
 args-same-length : (t : ℕ) → args-lts.Need-same-length (
   term-below t,
   term.Post,
@@ -215,7 +199,6 @@ args-same-length : (t : ℕ) → args-lts.Need-same-length (
 ) (args-at t) args.Post
 args-same-length t c = search needs
 
--- src/lib.rt:263:1
 args-same-length-2 : (t : ℕ) → args-lts.Need-same-length-2 (
   term-below t,
   term.Post,
@@ -224,7 +207,6 @@ args-same-length-2 : (t : ℕ) → args-lts.Need-same-length-2 (
 ) (args-at t) args.Post
 args-same-length-2 t c = search needs
 
--- src/lib.rt:263:1
 args-returns-2 : (t : ℕ) → args-lts.Need-returns-2 (
   term-below t,
   term.Post,
@@ -233,7 +215,6 @@ args-returns-2 : (t : ℕ) → args-lts.Need-returns-2 (
 ) (args-at t) args.Post
 args-returns-2 t c = λ deep h. args-some _ _ _ (c .before .before .before .before .before .before .before .before .before .before .if1 .left) (seq-no (c .before .before .before .before .before .before .before .term .ensures deep h) _ (c .before .m .given .1))
 
--- src/lib.rt:263:1
 args-same-length-3 : (t : ℕ) → args-lts.Need-same-length-3 (
   term-below t,
   term.Post,
@@ -242,7 +223,6 @@ args-same-length-3 : (t : ℕ) → args-lts.Need-same-length-3 (
 ) (args-at t) args.Post
 args-same-length-3 t c = search needs
 
--- src/lib.rt:263:1
 args-same-length-4 : (t : ℕ) → args-lts.Need-same-length-4 (
   term-below t,
   term.Post,
@@ -251,7 +231,6 @@ args-same-length-4 : (t : ℕ) → args-lts.Need-same-length-4 (
 ) (args-at t) args.Post
 args-same-length-4 t c = search needs
 
--- src/lib.rt:263:1
 args-returns-3 : (t : ℕ) → args-lts.Need-returns-3 (
   term-below t,
   term.Post,
@@ -260,7 +239,6 @@ args-returns-3 : (t : ℕ) → args-lts.Need-returns-3 (
 ) (args-at t) args.Post
 args-returns-3 t c = λ deep h. let e = term-left _ _ _ _ _ _ (c .before .before .before .before .before .before .before .before .before .before .before .before .before .before .term .ensures deep h) (c .before .before .before .before .before .before .before .before .k .given .1) in args-some _ _ _ (c .before .before .before .before .before .before .before .before .before .before .before .before .before .before .before .before .before .if1 .left) (seq-on (c .before .before .before .before .before .before .before .before .before .before .before .before .before .before .term .ensures deep h) _ (c .before .before .before .before .before .before .before .before .k .given .1) (λ g q. seq-last _ (λ x. refl) (rw q (c .before .before .before .before .args2 .ensures deep (omega arith)))))
 
--- src/lib.rt:256:11
 raised-raise-requires : (t : ℕ) → raised-lts.Need-raise-requires (
   raise-reads.Asked,
   raise-reads.Learnt,
@@ -269,7 +247,6 @@ raised-raise-requires : (t : ℕ) → raised-lts.Need-raise-requires (
 ) (raised-at t) raised.Post
 raised-raise-requires t c κs = search needs
 
--- src/lib.rt:257:18
 raised-enum-known-m : (t : ℕ) → raised-lts.Need-enum-known-m (
   raise-reads.Asked,
   raise-reads.Learnt,
@@ -278,7 +255,6 @@ raised-enum-known-m : (t : ℕ) → raised-lts.Need-enum-known-m (
 ) (raised-at t) raised.Post
 raised-enum-known-m t c = search needs
 
--- src/lib.rt:258:18
 raised-enum-known-f : (t : ℕ) → raised-lts.Need-enum-known-f (
   raise-reads.Asked,
   raise-reads.Learnt,
@@ -287,7 +263,6 @@ raised-enum-known-f : (t : ℕ) → raised-lts.Need-enum-known-f (
 ) (raised-at t) raised.Post
 raised-enum-known-f t c = search needs
 
--- src/lib.rt:258:27
 raised-term-requires : (t : ℕ) → raised-lts.Need-term-requires (
   raise-reads.Asked,
   raise-reads.Learnt,
@@ -296,7 +271,6 @@ raised-term-requires : (t : ℕ) → raised-lts.Need-term-requires (
 ) (raised-at t) raised.Post
 raised-term-requires t c κs = search needs
 
--- src/lib.rt:243:1
 raised-same-length : (t : ℕ) → raised-lts.Need-same-length (
   raise-reads.Asked,
   raise-reads.Learnt,
@@ -305,7 +279,6 @@ raised-same-length : (t : ℕ) → raised-lts.Need-same-length (
 ) (raised-at t) raised.Post
 raised-same-length t c = search needs
 
--- src/lib.rt:243:1
 raised-same-length-2 : (t : ℕ) → raised-lts.Need-same-length-2 (
   raise-reads.Asked,
   raise-reads.Learnt,
@@ -314,7 +287,6 @@ raised-same-length-2 : (t : ℕ) → raised-lts.Need-same-length-2 (
 ) (raised-at t) raised.Post
 raised-same-length-2 t c = search needs
 
--- src/lib.rt:243:1
 raised-returns : (t : ℕ) → raised-lts.Need-returns (
   raise-reads.Asked,
   raise-reads.Learnt,
@@ -324,7 +296,6 @@ raised-returns : (t : ℕ) → raised-lts.Need-returns (
 unfolding a-raised
 raised-returns t c = λ deep h. seq-no (c .before .before .before .before .before .before .before .raise .ensures) _ (c .before .m .given .1)
 
--- src/lib.rt:243:1
 raised-same-length-3 : (t : ℕ) → raised-lts.Need-same-length-3 (
   raise-reads.Asked,
   raise-reads.Learnt,
@@ -333,7 +304,6 @@ raised-same-length-3 : (t : ℕ) → raised-lts.Need-same-length-3 (
 ) (raised-at t) raised.Post
 raised-same-length-3 t c = search needs
 
--- src/lib.rt:243:1
 raised-same-length-4 : (t : ℕ) → raised-lts.Need-same-length-4 (
   raise-reads.Asked,
   raise-reads.Learnt,
@@ -342,7 +312,6 @@ raised-same-length-4 : (t : ℕ) → raised-lts.Need-same-length-4 (
 ) (raised-at t) raised.Post
 raised-same-length-4 t c = search needs
 
--- src/lib.rt:243:1
 raised-returns-2 : (t : ℕ) → raised-lts.Need-returns-2 (
   raise-reads.Asked,
   raise-reads.Learnt,
@@ -352,7 +321,6 @@ raised-returns-2 : (t : ℕ) → raised-lts.Need-returns-2 (
 unfolding a-raised
 raised-returns-2 t c = λ deep h. seq-on (c .before .before .before .before .before .before .before .before .before .before .before .before .before .before .raise .ensures) _ (c .before .before .before .before .before .before .before .before .f .given .1) (λ p q. seq-last _ (λ g. refl) (rw q (c .before .before .before .before .term .ensures deep h)))
 
--- src/lib.rt:211:9
 term-returns : (t : ℕ) → term-lts.Need-returns (
   take-reads.Asked,
   take-reads.Learnt,
@@ -365,7 +333,6 @@ term-returns : (t : ℕ) → term-lts.Need-returns (
 ) (term-at t) term.Post
 term-returns t c = λ deep h. term-none _ _ _ _ _ _ (c .if1 .taken)
 
--- src/lib.rt:213:11
 term-take-requires : (t : ℕ) → term-lts.Need-take-requires (
   take-reads.Asked,
   take-reads.Learnt,
@@ -378,7 +345,6 @@ term-take-requires : (t : ℕ) → term-lts.Need-take-requires (
 ) (term-at t) term.Post
 term-take-requires t c κs = search needs
 
--- src/lib.rt:214:18
 term-enum-known-m : (t : ℕ) → term-lts.Need-enum-known-m (
   take-reads.Asked,
   take-reads.Learnt,
@@ -391,7 +357,6 @@ term-enum-known-m : (t : ℕ) → term-lts.Need-enum-known-m (
 ) (term-at t) term.Post
 term-enum-known-m t c = search needs
 
--- src/lib.rt:215:18
 term-enum-known-tag : (t : ℕ) → term-lts.Need-enum-known-tag (
   take-reads.Asked,
   take-reads.Learnt,
@@ -404,7 +369,6 @@ term-enum-known-tag : (t : ℕ) → term-lts.Need-enum-known-tag (
 ) (term-at t) term.Post
 term-enum-known-tag t c = search needs
 
--- src/lib.rt:216:50
 term-sub-variable : (t : ℕ) → term-lts.Need-sub-variable (
   take-reads.Asked,
   take-reads.Learnt,
@@ -417,7 +381,6 @@ term-sub-variable : (t : ℕ) → term-lts.Need-sub-variable (
 ) (term-at t) term.Post
 term-sub-variable t c = search needs
 
--- src/lib.rt:216:18
 term-variable-requires : (t : ℕ) → term-lts.Need-variable-requires (
   take-reads.Asked,
   take-reads.Learnt,
@@ -430,7 +393,6 @@ term-variable-requires : (t : ℕ) → term-lts.Need-variable-requires (
 ) (term-at t) term.Post
 term-variable-requires t c κs = search needs
 
--- src/lib.rt:217:61
 term-sub-applied : (t : ℕ) → term-lts.Need-sub-applied (
   take-reads.Asked,
   take-reads.Learnt,
@@ -443,7 +405,6 @@ term-sub-applied : (t : ℕ) → term-lts.Need-sub-applied (
 ) (term-at t) term.Post
 term-sub-applied t c = search needs
 
--- src/lib.rt:217:18
 term-applied-requires : (t : ℕ) → term-lts.Need-applied-requires (
   take-reads.Asked,
   take-reads.Learnt,
@@ -456,7 +417,6 @@ term-applied-requires : (t : ℕ) → term-lts.Need-applied-requires (
 ) (term-at t) term.Post
 term-applied-requires t c κs = search needs
 
--- src/lib.rt:218:67
 term-sub-raised : (t : ℕ) → term-lts.Need-sub-raised (
   take-reads.Asked,
   take-reads.Learnt,
@@ -469,7 +429,6 @@ term-sub-raised : (t : ℕ) → term-lts.Need-sub-raised (
 ) (term-at t) term.Post
 term-sub-raised t c = search needs
 
--- src/lib.rt:218:18
 term-raised-requires : (t : ℕ) → term-lts.Need-raised-requires (
   take-reads.Asked,
   take-reads.Learnt,
@@ -482,7 +441,6 @@ term-raised-requires : (t : ℕ) → term-lts.Need-raised-requires (
 ) (term-at t) term.Post
 term-raised-requires t c κs = search needs
 
--- src/lib.rt:196:1
 term-same-length : (t : ℕ) → term-lts.Need-same-length (
   take-reads.Asked,
   take-reads.Learnt,
@@ -495,7 +453,6 @@ term-same-length : (t : ℕ) → term-lts.Need-same-length (
 ) (term-at t) term.Post
 term-same-length t c = search needs
 
--- src/lib.rt:196:1
 term-same-length-2 : (t : ℕ) → term-lts.Need-same-length-2 (
   take-reads.Asked,
   take-reads.Learnt,
@@ -508,7 +465,6 @@ term-same-length-2 : (t : ℕ) → term-lts.Need-same-length-2 (
 ) (term-at t) term.Post
 term-same-length-2 t c = search needs
 
--- src/lib.rt:196:1
 term-returns-2 : (t : ℕ) → term-lts.Need-returns-2 (
   take-reads.Asked,
   take-reads.Learnt,
@@ -521,7 +477,6 @@ term-returns-2 : (t : ℕ) → term-lts.Need-returns-2 (
 ) (term-at t) term.Post
 term-returns-2 t c = λ deep h. term-some _ _ _ _ _ _ (c .before .before .before .before .before .before .before .before .before .before .if1 .left) h (λ d k. seq-no (c .before .before .before .before .before .before .before .take .ensures) _ (c .before .m .given .1))
 
--- src/lib.rt:196:1
 term-same-length-3 : (t : ℕ) → term-lts.Need-same-length-3 (
   take-reads.Asked,
   take-reads.Learnt,
@@ -534,7 +489,6 @@ term-same-length-3 : (t : ℕ) → term-lts.Need-same-length-3 (
 ) (term-at t) term.Post
 term-same-length-3 t c = search needs
 
--- src/lib.rt:196:1
 term-same-length-4 : (t : ℕ) → term-lts.Need-same-length-4 (
   take-reads.Asked,
   take-reads.Learnt,
@@ -547,7 +501,6 @@ term-same-length-4 : (t : ℕ) → term-lts.Need-same-length-4 (
 ) (term-at t) term.Post
 term-same-length-4 t c = search needs
 
--- src/lib.rt:196:1
 term-returns-3 : (t : ℕ) → term-lts.Need-returns-3 (
   take-reads.Asked,
   take-reads.Learnt,
@@ -560,7 +513,6 @@ term-returns-3 : (t : ℕ) → term-lts.Need-returns-3 (
 ) (term-at t) term.Post
 term-returns-3 t c = λ deep h. term-some _ _ _ _ _ _ (c .before .before .before .before .before .before .before .before .before .before .before .before .before .before .before .before .before .before .if1 .left) h (λ d k. seq-at _ (c .before .before .before .before .before .before .before .before .before .before .before .before .before .before .before .take .ensures) (c .before .before .before .before .before .before .before .before .before .tag .given .1) (rw (node-variable _ _ _ _ _ _ (c .before .before .before .before .before .before .before .match2 .keys1)) (c .before .before .before .before .variable .ensures)))
 
--- src/lib.rt:196:1
 term-same-length-5 : (t : ℕ) → term-lts.Need-same-length-5 (
   take-reads.Asked,
   take-reads.Learnt,
@@ -573,7 +525,6 @@ term-same-length-5 : (t : ℕ) → term-lts.Need-same-length-5 (
 ) (term-at t) term.Post
 term-same-length-5 t c = search needs
 
--- src/lib.rt:196:1
 term-same-length-6 : (t : ℕ) → term-lts.Need-same-length-6 (
   take-reads.Asked,
   take-reads.Learnt,
@@ -586,7 +537,6 @@ term-same-length-6 : (t : ℕ) → term-lts.Need-same-length-6 (
 ) (term-at t) term.Post
 term-same-length-6 t c = search needs
 
--- src/lib.rt:196:1
 term-returns-4 : (t : ℕ) → term-lts.Need-returns-4 (
   take-reads.Asked,
   take-reads.Learnt,
@@ -599,7 +549,6 @@ term-returns-4 : (t : ℕ) → term-lts.Need-returns-4 (
 ) (term-at t) term.Post
 term-returns-4 t c = λ deep h. term-some _ _ _ _ _ _ (c .before .before .before .before .before .before .before .before .before .before .before .before .before .before .before .before .before .before .if1 .left) h (λ d k. seq-at _ (c .before .before .before .before .before .before .before .before .before .before .before .before .before .before .before .take .ensures) (c .before .before .before .before .before .before .before .before .before .tag .given .1) (rw (node-applied _ _ _ _ _ _ (c .before .before .before .before .before .before .before .match2 .keys2)) (c .before .before .before .before .applied .ensures d k)))
 
--- src/lib.rt:196:1
 term-same-length-7 : (t : ℕ) → term-lts.Need-same-length-7 (
   take-reads.Asked,
   take-reads.Learnt,
@@ -612,7 +561,6 @@ term-same-length-7 : (t : ℕ) → term-lts.Need-same-length-7 (
 ) (term-at t) term.Post
 term-same-length-7 t c = search needs
 
--- src/lib.rt:196:1
 term-same-length-8 : (t : ℕ) → term-lts.Need-same-length-8 (
   take-reads.Asked,
   take-reads.Learnt,
@@ -625,7 +573,6 @@ term-same-length-8 : (t : ℕ) → term-lts.Need-same-length-8 (
 ) (term-at t) term.Post
 term-same-length-8 t c = search needs
 
--- src/lib.rt:196:1
 term-returns-5 : (t : ℕ) → term-lts.Need-returns-5 (
   take-reads.Asked,
   take-reads.Learnt,

@@ -1,5 +1,5 @@
+-- `terms::pairs` meets its contract.
 use mathlib.Core.Path.{refl}
-use native.Mathlib.Omega.{arith}
 use Rattle.fields.proofs.Seqs.{seq-no, seq-on, seq-last}
 use Rattle.terms.proofs.Fillings.{pairs-none, pairs-some, pair-small}
 use borrow.Author.Needs.{needs}
@@ -22,7 +22,6 @@ pairs-at t = and 5 pairs-kinds.ps (is 5 pairs-kinds.ps μ-pairs t) pairs.Pre
 abbrev pairs-below : ℕ → In 5 pairs-kinds.ps
 pairs-below t = and 5 pairs-kinds.ps (falls 5 pairs-kinds.ps _<_ μ-pairs t) pairs.Pre
 
--- src/lib.rt:357:9
 pairs-returns : (t : ℕ) → pairs-lts.Need-returns (
   pair-reads.Asked,
   pair-reads.Learnt,
@@ -31,7 +30,6 @@ pairs-returns : (t : ℕ) → pairs-lts.Need-returns (
 ) (pairs-at t) pairs.Post
 pairs-returns t c = pairs-none _ _ _ (c .if1 .taken)
 
--- src/lib.rt:359:11
 pairs-pair-requires : (t : ℕ) → pairs-lts.Need-pair-requires (
   pair-reads.Asked,
   pair-reads.Learnt,
@@ -40,7 +38,6 @@ pairs-pair-requires : (t : ℕ) → pairs-lts.Need-pair-requires (
 ) (pairs-at t) pairs.Post
 pairs-pair-requires t c κs = search needs
 
--- src/lib.rt:360:18
 pairs-enum-known-m : (t : ℕ) → pairs-lts.Need-enum-known-m (
   pair-reads.Asked,
   pair-reads.Learnt,
@@ -49,7 +46,6 @@ pairs-enum-known-m : (t : ℕ) → pairs-lts.Need-enum-known-m (
 ) (pairs-at t) pairs.Post
 pairs-enum-known-m t c = search needs
 
--- src/lib.rt:361:18
 pairs-enum-known-x : (t : ℕ) → pairs-lts.Need-enum-known-x (
   pair-reads.Asked,
   pair-reads.Learnt,
@@ -58,7 +54,6 @@ pairs-enum-known-x : (t : ℕ) → pairs-lts.Need-enum-known-x (
 ) (pairs-at t) pairs.Post
 pairs-enum-known-x t c = search needs
 
--- src/lib.rt:361:62
 pairs-sub-pairs : (t : ℕ) → pairs-lts.Need-sub-pairs (
   pair-reads.Asked,
   pair-reads.Learnt,
@@ -67,7 +62,6 @@ pairs-sub-pairs : (t : ℕ) → pairs-lts.Need-sub-pairs (
 ) (pairs-at t) pairs.Post
 pairs-sub-pairs t c = search needs
 
--- src/lib.rt:361:69
 pairs-cast-pairs : (t : ℕ) → pairs-lts.Need-cast-pairs (
   pair-reads.Asked,
   pair-reads.Learnt,
@@ -76,7 +70,6 @@ pairs-cast-pairs : (t : ℕ) → pairs-lts.Need-cast-pairs (
 ) (pairs-at t) pairs.Post
 pairs-cast-pairs t c = let h = pair-small _ _ (c .before .before .before .before .before .before .before .before .before .pair .ensures) (c .before .before .before .x .given .1) in search needs
 
--- src/lib.rt:361:69
 pairs-add-pairs : (t : ℕ) → pairs-lts.Need-add-pairs (
   pair-reads.Asked,
   pair-reads.Learnt,
@@ -85,7 +78,6 @@ pairs-add-pairs : (t : ℕ) → pairs-lts.Need-add-pairs (
 ) (pairs-at t) pairs.Post
 pairs-add-pairs t c = let h = pair-small _ _ (c .before .before .before .before .before .before .before .before .before .pair .ensures) (c .before .before .before .x .given .1) in search needs
 
--- src/lib.rt:361:27
 pairs-pairs-requires : (t : ℕ) → pairs-lts.Need-pairs-requires (
   pair-reads.Asked,
   pair-reads.Learnt,
@@ -94,7 +86,6 @@ pairs-pairs-requires : (t : ℕ) → pairs-lts.Need-pairs-requires (
 ) (pairs-at t) pairs.Post
 pairs-pairs-requires t c κs = search needs
 
--- src/lib.rt:344:1
 pairs-same-length : (t : ℕ) → pairs-lts.Need-same-length (
   pair-reads.Asked,
   pair-reads.Learnt,
@@ -103,7 +94,6 @@ pairs-same-length : (t : ℕ) → pairs-lts.Need-same-length (
 ) (pairs-at t) pairs.Post
 pairs-same-length t c = search needs
 
--- src/lib.rt:344:1
 pairs-same-length-2 : (t : ℕ) → pairs-lts.Need-same-length-2 (
   pair-reads.Asked,
   pair-reads.Learnt,
@@ -112,7 +102,6 @@ pairs-same-length-2 : (t : ℕ) → pairs-lts.Need-same-length-2 (
 ) (pairs-at t) pairs.Post
 pairs-same-length-2 t c = search needs
 
--- src/lib.rt:344:1
 pairs-returns-2 : (t : ℕ) → pairs-lts.Need-returns-2 (
   pair-reads.Asked,
   pair-reads.Learnt,
@@ -121,7 +110,6 @@ pairs-returns-2 : (t : ℕ) → pairs-lts.Need-returns-2 (
 ) (pairs-at t) pairs.Post
 pairs-returns-2 t c = pairs-some _ _ _ (c .before .before .before .before .before .before .before .before .before .before .if1 .left) (seq-no (c .before .before .before .before .before .before .before .pair .ensures) _ (c .before .m .given .1))
 
--- src/lib.rt:344:1
 pairs-same-length-3 : (t : ℕ) → pairs-lts.Need-same-length-3 (
   pair-reads.Asked,
   pair-reads.Learnt,
@@ -130,7 +118,6 @@ pairs-same-length-3 : (t : ℕ) → pairs-lts.Need-same-length-3 (
 ) (pairs-at t) pairs.Post
 pairs-same-length-3 t c = search needs
 
--- src/lib.rt:344:1
 pairs-same-length-4 : (t : ℕ) → pairs-lts.Need-same-length-4 (
   pair-reads.Asked,
   pair-reads.Learnt,
@@ -139,7 +126,6 @@ pairs-same-length-4 : (t : ℕ) → pairs-lts.Need-same-length-4 (
 ) (pairs-at t) pairs.Post
 pairs-same-length-4 t c = search needs
 
--- src/lib.rt:344:1
 pairs-returns-3 : (t : ℕ) → pairs-lts.Need-returns-3 (
   pair-reads.Asked,
   pair-reads.Learnt,

@@ -1,56 +1,42 @@
-use mathlib.Core.Path.{refl, sym, _∙_}
-use Rattle.fields.proofs.Seqs.{seq-no, seq-on, seq-at, seq-last}
+-- `terms::exponent` meets its contract.
+use mathlib.Core.Path.{refl}
+use Rattle.fields.proofs.Seqs.{seq-no, seq-at, seq-last}
 use Rattle.grammar.specs.Terms.{an-exponent}
 use borrow.Author.Needs.{needs}
 use Rattle.terms.proofs.exponent.Statement.{statement}
 use Rattle.terms.proofs.exponent.Tie as tie
-use Rattle.terms.proofs.exponent.Reads as reads
-use Rattle.terms.proofs.exponent.Lts as lts
-use Rattle.fields.proofs.Cursor.take.Reads as take-reads
-use Rattle.terms.proofs.least_beside.Reads as least-beside-reads
 
--- src/lib.rt:147:11
 take-requires : tie.Need-take-requires
 take-requires c κs = search needs
 
--- src/lib.rt:148:18
 enum-known-m : tie.Need-enum-known-m
 enum-known-m c = search needs
 
--- src/lib.rt:149:18
 enum-known-a : tie.Need-enum-known-a
 enum-known-a c = search needs
 
--- src/lib.rt:150:17
 least-beside-requires : tie.Need-least-beside-requires
 least-beside-requires c κs = search needs
 
--- src/lib.rt:151:13
 take-requires-2 : tie.Need-take-requires-2
 take-requires-2 c κs = search needs
 
--- src/lib.rt:137:1
 same-length : tie.Need-same-length
 same-length c = search needs
 
--- src/lib.rt:137:1
 same-length-2 : tie.Need-same-length-2
 same-length-2 c = search needs
 
--- src/lib.rt:137:1
 returns : tie.Need-returns
 unfolding an-exponent
 returns c = seq-no (c .before .before .before .before .before .before .before .take .ensures) _ (c .before .m .given .1)
 
--- src/lib.rt:137:1
 same-length-3 : tie.Need-same-length-3
 same-length-3 c = search needs
 
--- src/lib.rt:137:1
 same-length-4 : tie.Need-same-length-4
 same-length-4 c = search needs
 
--- src/lib.rt:137:1
 returns-2 : tie.Need-returns-2
 unfolding an-exponent
 returns-2 c = seq-at _ (c .before .before .before .before .before .before .before .before .before .before .before .before .before .before .before .take .ensures) (c .before .before .before .before .before .before .before .before .before .a .given .1) (seq-last _ (λ b. refl) (rw (← (c .before .before .before .before .before .before .before .least-beside .ensures)) (c .before .before .before .before .take2 .ensures)))

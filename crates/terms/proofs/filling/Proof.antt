@@ -1,51 +1,38 @@
+-- `terms::filling` meets its contract.
 use Rattle.fields.proofs.Seqs.{seq-no, seq-at}
 use Rattle.grammar.specs.Terms.{a-filling}
 use borrow.Author.Needs.{needs}
 use Rattle.terms.proofs.filling.Statement.{statement}
 use Rattle.terms.proofs.filling.Tie as tie
-use Rattle.terms.proofs.filling.Reads as reads
-use Rattle.terms.proofs.filling.Lts as lts
-use Rattle.fields.proofs.Cursor.take.Reads as take-reads
-use Rattle.terms.proofs.pairs.Reads as pairs-reads
 
--- src/lib.rt:376:11
 take-requires : tie.Need-take-requires
 take-requires c κs = search needs
 
--- src/lib.rt:377:18
 enum-known-m : tie.Need-enum-known-m
 enum-known-m c = search needs
 
--- src/lib.rt:378:18
 enum-known-n : tie.Need-enum-known-n
 enum-known-n c = search needs
 
--- src/lib.rt:378:27
 pairs-requires : tie.Need-pairs-requires
 pairs-requires c κs = search needs
 
--- src/lib.rt:366:1
 same-length : tie.Need-same-length
 same-length c = search needs
 
--- src/lib.rt:366:1
 same-length-2 : tie.Need-same-length-2
 same-length-2 c = search needs
 
--- src/lib.rt:366:1
 returns : tie.Need-returns
 unfolding a-filling
 returns c = seq-no (c .before .before .before .before .before .before .before .take .ensures) _ (c .before .m .given .1)
 
--- src/lib.rt:366:1
 same-length-3 : tie.Need-same-length-3
 same-length-3 c = search needs
 
--- src/lib.rt:366:1
 same-length-4 : tie.Need-same-length-4
 same-length-4 c = search needs
 
--- src/lib.rt:366:1
 returns-2 : tie.Need-returns-2
 unfolding a-filling
 returns-2 c = seq-at _ (c .before .before .before .before .before .before .before .before .before .before .before .before .before .before .take .ensures) (c .before .before .before .before .before .before .before .before .n .given .1) (c .before .before .before .before .pairs .ensures)

@@ -1,14 +1,11 @@
+-- `terms::least_beside` meets its contract.
 use borrow.Author.Tests.{eq-eqb, ne-eqb}
 use Rattle.terms.proofs.least_beside.Statement.{statement}
 use Rattle.terms.proofs.least_beside.Tie as tie
-use Rattle.terms.proofs.least_beside.Reads as reads
-use Rattle.terms.proofs.least_beside.Lts as lts
 
--- src/lib.rt:130:1
 returns : tie.Need-returns
 returns c = simp (eq-eqb _ _ (c .if1 .taken))
 
--- src/lib.rt:130:1
 returns-2 : tie.Need-returns-2
 returns-2 c = simp (ne-eqb _ _ (c .if1 .left))
 

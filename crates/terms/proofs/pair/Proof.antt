@@ -1,72 +1,54 @@
+-- `terms::pair` meets its contract.
 use Rattle.fields.proofs.Seqs.{seq-no, seq-on, seq-at, ran-done}
 use Rattle.grammar.specs.Terms.{a-pair}
 use borrow.Author.Needs.{needs}
 use Rattle.terms.proofs.pair.Statement.{statement}
 use Rattle.terms.proofs.pair.Tie as tie
-use Rattle.terms.proofs.pair.Reads as reads
-use Rattle.terms.proofs.pair.Lts as lts
-use Rattle.fields.proofs.Cursor.take.Reads as take-reads
-use Rattle.terms.proofs.any_term.Reads as any-term-reads
 
--- src/lib.rt:334:11
 take-requires : tie.Need-take-requires
 take-requires c κs = search needs
 
--- src/lib.rt:335:18
 enum-known-m : tie.Need-enum-known-m
 enum-known-m c = search needs
 
--- src/lib.rt:336:18
 enum-known-x : tie.Need-enum-known-x
 enum-known-x c = search needs
 
--- src/lib.rt:336:33
 any-term-requires : tie.Need-any-term-requires
 any-term-requires c κs = search needs
 
--- src/lib.rt:337:22
 enum-known-m-2 : tie.Need-enum-known-m-2
 enum-known-m-2 c = search needs
 
--- src/lib.rt:338:25
 enum-known-e : tie.Need-enum-known-e
 enum-known-e c = search needs
 
--- src/lib.rt:323:1
 same-length : tie.Need-same-length
 same-length c = search needs
 
--- src/lib.rt:323:1
 same-length-2 : tie.Need-same-length-2
 same-length-2 c = search needs
 
--- src/lib.rt:323:1
 returns : tie.Need-returns
 unfolding a-pair
 returns c = seq-no (c .before .before .before .before .before .before .before .take .ensures) _ (c .before .m .given .1)
 
--- src/lib.rt:323:1
 same-length-3 : tie.Need-same-length-3
 same-length-3 c = search needs
 
--- src/lib.rt:323:1
 same-length-4 : tie.Need-same-length-4
 same-length-4 c = search needs
 
--- src/lib.rt:323:1
 returns-2 : tie.Need-returns-2
 unfolding a-pair
 returns-2 c = seq-at _ (c .before .before .before .before .before .before .before .before .before .before .before .before .before .before .before .before .before .take .ensures) (c .before .before .before .before .before .before .before .before .before .before .before .x .given .1) (seq-no (c .before .before .before .before .before .before .before .any-term .ensures) _ (c .before .m2 .given .1))
 
--- src/lib.rt:323:1
 same-length-5 : tie.Need-same-length-5
 same-length-5 c = search needs
 
--- src/lib.rt:323:1
 same-length-6 : tie.Need-same-length-6
 same-length-6 c = search needs
 
--- src/lib.rt:323:1
 returns-3 : tie.Need-returns-3
 unfolding a-pair
 returns-3 c = seq-at _ (c .before .before .before .before .before .before .before .before .before .before .before .before .before .before .before .before .before .take .ensures) (c .before .before .before .before .before .before .before .before .before .before .before .x .given .1) (seq-on (c .before .before .before .before .before .before .before .any-term .ensures) _ (c .before .e .given .1) (λ g q. ran-done _ _ _ _))

@@ -1,73 +1,54 @@
-use mathlib.Core.Path.{refl, sym, _∙_}
-use Rattle.fields.proofs.Seqs.{seq-no, seq-on, seq-at, seq-last, ran-done}
+-- `terms::raise` meets its contract.
+use Rattle.fields.proofs.Seqs.{seq-no, seq-on, seq-at, ran-done}
 use Rattle.grammar.specs.Terms.{a-raise}
 use borrow.Author.Needs.{needs}
 use Rattle.terms.proofs.raise.Statement.{statement}
 use Rattle.terms.proofs.raise.Tie as tie
-use Rattle.terms.proofs.raise.Reads as reads
-use Rattle.terms.proofs.raise.Lts as lts
-use Rattle.terms.proofs.exponent.Reads as exponent-reads
-use Rattle.terms.proofs.unary.Reads as unary-reads
 
--- src/lib.rt:160:11
 unary-requires : tie.Need-unary-requires
 unary-requires c κs = search needs
 
--- src/lib.rt:161:18
 enum-known-m : tie.Need-enum-known-m
 enum-known-m c = search needs
 
--- src/lib.rt:162:18
 enum-known-f : tie.Need-enum-known-f
 enum-known-f c = search needs
 
--- src/lib.rt:162:33
 exponent-requires : tie.Need-exponent-requires
 exponent-requires c κs = search needs
 
--- src/lib.rt:163:22
 enum-known-m-2 : tie.Need-enum-known-m-2
 enum-known-m-2 c = search needs
 
--- src/lib.rt:164:25
 enum-known-e : tie.Need-enum-known-e
 enum-known-e c = search needs
 
--- src/lib.rt:148:1
 same-length : tie.Need-same-length
 same-length c = search needs
 
--- src/lib.rt:148:1
 same-length-2 : tie.Need-same-length-2
 same-length-2 c = search needs
 
--- src/lib.rt:148:1
 returns : tie.Need-returns
 unfolding a-raise
 returns c = seq-no (c .before .before .before .before .before .before .before .unary .ensures) _ (c .before .m .given .1)
 
--- src/lib.rt:148:1
 same-length-3 : tie.Need-same-length-3
 same-length-3 c = search needs
 
--- src/lib.rt:148:1
 same-length-4 : tie.Need-same-length-4
 same-length-4 c = search needs
 
--- src/lib.rt:148:1
 returns-2 : tie.Need-returns-2
 unfolding a-raise
 returns-2 c = seq-at _ (c .before .before .before .before .before .before .before .before .before .before .before .before .before .before .before .before .before .unary .ensures) (c .before .before .before .before .before .before .before .before .before .before .before .f .given .1) (seq-no (c .before .before .before .before .before .before .before .exponent .ensures) _ (c .before .m2 .given .1))
 
--- src/lib.rt:148:1
 same-length-5 : tie.Need-same-length-5
 same-length-5 c = search needs
 
--- src/lib.rt:148:1
 same-length-6 : tie.Need-same-length-6
 same-length-6 c = search needs
 
--- src/lib.rt:148:1
 returns-3 : tie.Need-returns-3
 unfolding a-raise
 returns-3 c = seq-at _ (c .before .before .before .before .before .before .before .before .before .before .before .before .before .before .before .before .before .unary .ensures) (c .before .before .before .before .before .before .before .before .before .before .before .f .given .1) (seq-on (c .before .before .before .before .before .before .before .exponent .ensures) _ (c .before .e .given .1) (λ b q. ran-done _ _ _ _))

@@ -1,5 +1,5 @@
+-- `terms::unary` meets its contract.
 use mathlib.Core.Path.{refl, sym, _∙_}
-use native.Mathlib.Omega.{arith}
 use Rattle.fields.proofs.Sources.{got-near}
 use Rattle.fields.proofs.Runs.{ran-bad, ran-refused, one-in}
 use Rattle.grammar.specs.Terms.{a-unary}
@@ -7,60 +7,43 @@ use Rattle.terms.proofs.Symbols.{unary-not, unary-like, unary-ok}
 use borrow.Author.Needs.{needs}
 use Rattle.terms.proofs.unary.Statement.{statement}
 use Rattle.terms.proofs.unary.Tie as tie
-use Rattle.terms.proofs.unary.Reads as reads
-use Rattle.terms.proofs.unary.Lts as lts
-use Rattle.fields.proofs.Cursor.look.Reads as look-reads
-use Rattle.fields.proofs.Cursor.pass.Reads as pass-reads
-use Rattle.terms.proofs.arity.Reads as arity-reads
 
--- src/lib.rt:110:11
 look-requires : tie.Need-look-requires
 look-requires c κs = search needs
 
--- src/lib.rt:111:20
 enum-known-m : tie.Need-enum-known-m
 enum-known-m c = search needs
 
--- src/lib.rt:112:20
 enum-known-f : tie.Need-enum-known-f
 enum-known-f c = search needs
 
--- src/lib.rt:113:17
 arity-requires : tie.Need-arity-requires
 arity-requires c κs = search needs
 
--- src/lib.rt:115:17
 returns : tie.Need-returns
 unfolding a-unary
 returns c = ran-refused _ 4 (c .before .before .before .before .before .look .ensures) (c .before .before .before .f .given .1) (unary-not _ _ (c .before .arity .ensures) _ (c .if1 .taken))
 
--- src/lib.rt:117:21
 cast-k : tie.Need-cast-k
 cast-k c = search needs
 
--- src/lib.rt:119:17
 returns-2 : tie.Need-returns-2
 unfolding a-unary
 returns-2 c = ran-refused _ 5 (c .before .before .before .before .before .before .look .ensures) (c .before .before .before .before .f .given .1) (unary-like _ _ (c .before .before .arity .ensures) _ (c .before .if1 .left) (c .if2 .taken))
 
--- src/lib.rt:121:17
 pass-requires : tie.Need-pass-requires
 pass-requires c κs = let h = got-near _ _ _ _ _ (sym (c .before .before .before .before .before .before .before .before .look .ensures) ∙ c .before .before .before .before .before .before .f .given .1) in (h .narrow, h .few, h .close)
 
--- src/lib.rt:98:1
 returns-3 : tie.Need-returns-3
 unfolding a-unary
 returns-3 c = ran-bad _ (c .before .before .before .look .ensures) (c .before .m .given .1)
 
--- src/lib.rt:98:1
 same-length : tie.Need-same-length
 same-length c = search needs
 
--- src/lib.rt:98:1
 same-length-2 : tie.Need-same-length-2
 same-length-2 c = search needs
 
--- src/lib.rt:98:1
 returns-4 : tie.Need-returns-4
 unfolding a-unary
 returns-4 c = one-in _ _ _ (c .before .before .before .before .before .before .before .before .before .before .before .before .before .look .ensures) (c .before .before .before .before .before .before .before .before .before .before .before .f .given .1) (unary-ok _ _ (c .before .before .before .before .before .before .before .before .before .arity .ensures) _ (c .before .before .before .before .before .before .before .before .if1 .left) (c .before .before .before .before .before .before .before .if2 .left)) refl (c .before .before .before .before .pass .ensures .0) (c .before .before .before .before .pass .ensures .1 .0) (c .before .before .before .before .pass .ensures .1 .1)

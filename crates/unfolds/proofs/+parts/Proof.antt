@@ -1,3 +1,4 @@
+-- `unfolds::parts` meets its contract.
 use Rattle.unfolds.proofs.Unfoldings.{parts-last, parts-fault, parts-on}
 use borrow.Author.Needs.{needs}
 use Prim.Native.Nat.{ℕ, _<_}
@@ -21,7 +22,6 @@ parts-at t = and 3 parts-kinds.ps (is 3 parts-kinds.ps μ-parts t) parts.Pre
 abbrev parts-below : ℕ → In 3 parts-kinds.ps
 parts-below t = and 3 parts-kinds.ps (falls 3 parts-kinds.ps _<_ μ-parts t) parts.Pre
 
--- src/lib.rt:495:9
 parts-last-requires : (t : ℕ) → parts-lts.Need-last-requires (
   last-reads.Asked,
   last-reads.Learnt,
@@ -34,7 +34,6 @@ parts-last-requires : (t : ℕ) → parts-lts.Need-last-requires (
 ) (parts-at t) parts.Post
 parts-last-requires t c κs = search needs
 
--- src/lib.rt:495:9
 parts-same-length : (t : ℕ) → parts-lts.Need-same-length (
   last-reads.Asked,
   last-reads.Learnt,
@@ -47,7 +46,6 @@ parts-same-length : (t : ℕ) → parts-lts.Need-same-length (
 ) (parts-at t) parts.Post
 parts-same-length t c = search needs
 
--- src/lib.rt:495:9
 parts-returns : (t : ℕ) → parts-lts.Need-returns (
   last-reads.Asked,
   last-reads.Learnt,
@@ -60,7 +58,6 @@ parts-returns : (t : ℕ) → parts-lts.Need-returns (
 ) (parts-at t) parts.Post
 parts-returns t c = parts-last (c .before .before .before .before .if1 .taken) (c .before .before .last .ensures)
 
--- src/lib.rt:497:9
 parts-read-use-requires : (t : ℕ) → parts-lts.Need-read-use-requires (
   last-reads.Asked,
   last-reads.Learnt,
@@ -73,7 +70,6 @@ parts-read-use-requires : (t : ℕ) → parts-lts.Need-read-use-requires (
 ) (parts-at t) parts.Post
 parts-read-use-requires t c κs = search needs
 
--- src/lib.rt:499:11
 parts-part-by-requires : (t : ℕ) → parts-lts.Need-part-by-requires (
   last-reads.Asked,
   last-reads.Learnt,
@@ -86,7 +82,6 @@ parts-part-by-requires : (t : ℕ) → parts-lts.Need-part-by-requires (
 ) (parts-at t) parts.Post
 parts-part-by-requires t c κs = search needs
 
--- src/lib.rt:500:22
 parts-enum-known-n : (t : ℕ) → parts-lts.Need-enum-known-n (
   last-reads.Asked,
   last-reads.Learnt,
@@ -99,7 +94,6 @@ parts-enum-known-n : (t : ℕ) → parts-lts.Need-enum-known-n (
 ) (parts-at t) parts.Post
 parts-enum-known-n t c = search needs
 
--- src/lib.rt:501:21
 parts-enum-known-next : (t : ℕ) → parts-lts.Need-enum-known-next (
   last-reads.Asked,
   last-reads.Learnt,
@@ -112,7 +106,6 @@ parts-enum-known-next : (t : ℕ) → parts-lts.Need-enum-known-next (
 ) (parts-at t) parts.Post
 parts-enum-known-next t c = search needs
 
--- src/lib.rt:506:13
 parts-add-parts : (t : ℕ) → parts-lts.Need-add-parts (
   last-reads.Asked,
   last-reads.Learnt,
@@ -125,7 +118,6 @@ parts-add-parts : (t : ℕ) → parts-lts.Need-add-parts (
 ) (parts-at t) parts.Post
 parts-add-parts t c = search needs
 
--- src/lib.rt:508:13
 parts-sub-parts : (t : ℕ) → parts-lts.Need-sub-parts (
   last-reads.Asked,
   last-reads.Learnt,
@@ -138,7 +130,6 @@ parts-sub-parts : (t : ℕ) → parts-lts.Need-sub-parts (
 ) (parts-at t) parts.Post
 parts-sub-parts t c = search needs
 
--- src/lib.rt:501:30
 parts-parts-requires : (t : ℕ) → parts-lts.Need-parts-requires (
   last-reads.Asked,
   last-reads.Learnt,
@@ -151,7 +142,6 @@ parts-parts-requires : (t : ℕ) → parts-lts.Need-parts-requires (
 ) (parts-at t) parts.Post
 parts-parts-requires t c κs = search needs
 
--- src/lib.rt:480:1
 parts-same-length-2 : (t : ℕ) → parts-lts.Need-same-length-2 (
   last-reads.Asked,
   last-reads.Learnt,
@@ -164,7 +154,6 @@ parts-same-length-2 : (t : ℕ) → parts-lts.Need-same-length-2 (
 ) (parts-at t) parts.Post
 parts-same-length-2 t c = search needs
 
--- src/lib.rt:480:1
 parts-returns-2 : (t : ℕ) → parts-lts.Need-returns-2 (
   last-reads.Asked,
   last-reads.Learnt,
@@ -177,7 +166,6 @@ parts-returns-2 : (t : ℕ) → parts-lts.Need-returns-2 (
 ) (parts-at t) parts.Post
 parts-returns-2 t c = parts-fault (c .before .before .before .before .before .before .before .before .before .read-use .ensures) (c .before .before .before .before .before .part-by .ensures) (c .before .before .before .before .before .before .before .before .before .before .before .if1 .left) (c .before .n .given .1)
 
--- src/lib.rt:480:1
 parts-same-length-3 : (t : ℕ) → parts-lts.Need-same-length-3 (
   last-reads.Asked,
   last-reads.Learnt,
@@ -190,7 +178,6 @@ parts-same-length-3 : (t : ℕ) → parts-lts.Need-same-length-3 (
 ) (parts-at t) parts.Post
 parts-same-length-3 t c = search needs
 
--- src/lib.rt:480:1
 parts-returns-3 : (t : ℕ) → parts-lts.Need-returns-3 (
   last-reads.Asked,
   last-reads.Learnt,

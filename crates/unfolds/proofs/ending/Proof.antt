@@ -1,23 +1,18 @@
+-- `unfolds::ending` meets its contract.
 use Rattle.unfolds.proofs.Unfoldings.{ends-fault, ends-good}
 use borrow.Author.Needs.{needs}
 use Rattle.unfolds.proofs.ending.Statement.{statement}
 use Rattle.unfolds.proofs.ending.Tie as tie
-use Rattle.unfolds.proofs.ending.Reads as reads
-use Rattle.unfolds.proofs.ending.Lts as lts
 
--- src/lib.rt:320:22
 enum-known-found : tie.Need-enum-known-found
 enum-known-found c = search needs
 
--- src/lib.rt:321:27
 enum-told : tie.Need-enum-told
 enum-told c = search needs
 
--- src/lib.rt:316:1
 returns : tie.Need-returns
 returns c = ends-fault (c .before .found .given .1)
 
--- src/lib.rt:316:1
 returns-2 : tie.Need-returns-2
 returns-2 c = ends-good (c .enum-told .given .1)
 

@@ -1,37 +1,27 @@
+-- `unfolds::last_part` meets its contract.
 use Rattle.unfolds.proofs.Unfoldings.{last-pending, last-called}
 use borrow.Author.Needs.{needs}
 use Rattle.unfolds.proofs.last_part.Statement.{statement}
 use Rattle.unfolds.proofs.last_part.Tie as tie
-use Rattle.unfolds.proofs.last_part.Reads as reads
-use Rattle.unfolds.proofs.last_part.Lts as lts
-use Rattle.unfolds.proofs.call_used.Reads as call-used-reads
-use Rattle.unfolds.proofs.pending.Reads as pending-reads
 
--- src/lib.rt:393:11
 pending-requires : tie.Need-pending-requires
 pending-requires c κs = search needs
 
--- src/lib.rt:394:22
 enum-known-n : tie.Need-enum-known-n
 enum-known-n c = search needs
 
--- src/lib.rt:395:56
 enum-told : tie.Need-enum-told
 enum-told c = search needs
 
--- src/lib.rt:395:27
 call-used-requires : tie.Need-call-used-requires
 call-used-requires c κs = search needs
 
--- src/lib.rt:381:1
 returns : tie.Need-returns
 returns c = last-pending (c .before .before .before .pending .ensures) (c .before .n .given .1)
 
--- src/lib.rt:381:1
 same-length : tie.Need-same-length
 same-length c = search needs
 
--- src/lib.rt:381:1
 returns-2 : tie.Need-returns-2
 returns-2 c = last-called (c .before .before .before .before .before .before .pending .ensures) (c .before .before .before .before .enum-told .given .1) (c .before .before .call-used .ensures)
 

@@ -1,37 +1,27 @@
+-- `unfolds::part_by` meets its contract.
 use Rattle.unfolds.proofs.Unfoldings.{part-unspent, part-called}
 use borrow.Author.Needs.{needs}
 use Rattle.unfolds.proofs.part_by.Statement.{statement}
 use Rattle.unfolds.proofs.part_by.Tie as tie
-use Rattle.unfolds.proofs.part_by.Reads as reads
-use Rattle.unfolds.proofs.part_by.Lts as lts
-use Rattle.unfolds.proofs.call_used.Reads as call-used-reads
-use Rattle.unfolds.proofs.spent.Reads as spent-reads
 
--- src/lib.rt:473:11
 spent-requires : tie.Need-spent-requires
 spent-requires c κs = search needs
 
--- src/lib.rt:474:22
 enum-known-n : tie.Need-enum-known-n
 enum-known-n c = search needs
 
--- src/lib.rt:475:56
 enum-told : tie.Need-enum-told
 enum-told c = search needs
 
--- src/lib.rt:475:27
 call-used-requires : tie.Need-call-used-requires
 call-used-requires c κs = search needs
 
--- src/lib.rt:462:1
 returns : tie.Need-returns
 returns c = part-unspent (c .before .before .before .spent .ensures) (c .before .n .given .1)
 
--- src/lib.rt:462:1
 same-length : tie.Need-same-length
 same-length c = search needs
 
--- src/lib.rt:462:1
 returns-2 : tie.Need-returns-2
 returns-2 c = part-called (c .before .before .before .before .before .before .spent .ensures) (c .before .before .before .before .enum-told .given .1) (c .before .before .call-used .ensures)
 

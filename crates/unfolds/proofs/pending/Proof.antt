@@ -1,24 +1,18 @@
+-- `unfolds::pending` meets its contract.
 use Rattle.unfolds.proofs.Unfoldings.{pends-unmet, pends-met, pends-nothing}
 use borrow.Author.Needs.{needs}
 use Rattle.unfolds.proofs.pending.Statement.{statement}
 use Rattle.unfolds.proofs.pending.Tie as tie
-use Rattle.unfolds.proofs.pending.Reads as reads
-use Rattle.unfolds.proofs.pending.Lts as lts
-use Rattle.unfolds.proofs.is_empty.Reads as is-empty-reads
 
--- src/lib.rt:320:12
 is-empty-requires : tie.Need-is-empty-requires
 is-empty-requires c κs = search needs
 
--- src/lib.rt:321:13
 returns : tie.Need-returns
 returns c = pends-unmet (c .before .is-empty .ensures) (c .before .before .if1 .taken) (c .if2 .taken)
 
--- src/lib.rt:316:1
 returns-2 : tie.Need-returns-2
 returns-2 c = pends-met (c .before .is-empty .ensures) (c .if2 .left)
 
--- src/lib.rt:316:1
 returns-3 : tie.Need-returns-3
 returns-3 c = pends-nothing (c .if1 .left)
 

@@ -1,20 +1,15 @@
+-- `unfolds::spent` meets its contract.
 use Rattle.unfolds.proofs.Unfoldings.{spends-met, spends-unmet}
 use borrow.Author.Needs.{needs}
 use Rattle.unfolds.proofs.spent.Statement.{statement}
 use Rattle.unfolds.proofs.spent.Tie as tie
-use Rattle.unfolds.proofs.spent.Reads as reads
-use Rattle.unfolds.proofs.spent.Lts as lts
-use Rattle.unfolds.proofs.is_empty.Reads as is-empty-reads
 
--- src/lib.rt:331:8
 is-empty-requires : tie.Need-is-empty-requires
 is-empty-requires c κs = search needs
 
--- src/lib.rt:332:9
 returns : tie.Need-returns
 returns c = spends-met (c .before .is-empty .ensures) (c .if1 .taken)
 
--- src/lib.rt:328:1
 returns-2 : tie.Need-returns-2
 returns-2 c = spends-unmet (c .before .is-empty .ensures) (c .if1 .left)
 

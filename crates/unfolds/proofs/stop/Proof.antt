@@ -1,37 +1,27 @@
+-- `unfolds::stop` meets its contract.
 use Rattle.unfolds.proofs.Unfoldings.{stops-fact, stops-call}
 use borrow.Author.Needs.{needs}
 use Rattle.unfolds.proofs.stop.Statement.{statement}
 use Rattle.unfolds.proofs.stop.Tie as tie
-use Rattle.unfolds.proofs.stop.Reads as reads
-use Rattle.unfolds.proofs.stop.Lts as lts
-use Rattle.unfolds.proofs.parts.Reads as parts-reads
-use Rattle.unfolds.proofs.stop_by.Reads as stop-by-reads
 
--- src/lib.rt:479:9
 stop-by-requires : tie.Need-stop-by-requires
 stop-by-requires c κs = search needs
 
--- src/lib.rt:479:9
 same-length : tie.Need-same-length
 same-length c = search needs
 
--- src/lib.rt:479:9
 returns : tie.Need-returns
 returns c = stops-fact (c .before .before .before .before .if1 .taken) (c .before .before .stop-by .ensures)
 
--- src/lib.rt:481:50
 sub-parts : tie.Need-sub-parts
 sub-parts c = search needs
 
--- src/lib.rt:481:5
 parts-requires : tie.Need-parts-requires
 parts-requires c κs = search needs
 
--- src/lib.rt:465:1
 same-length-2 : tie.Need-same-length-2
 same-length-2 c = search needs
 
--- src/lib.rt:465:1
 returns-2 : tie.Need-returns-2
 returns-2 c = stops-call (c .before .before .before .before .if1 .left) (c .before .before .parts .ensures)
 

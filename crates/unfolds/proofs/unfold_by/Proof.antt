@@ -1,55 +1,39 @@
+-- `unfolds::unfold_by` meets its contract.
 use Rattle.unfolds.proofs.Unfoldings.{unfolds-fault, unfolds-on}
 use borrow.Author.Needs.{needs}
 use Rattle.unfolds.proofs.unfold_by.Statement.{statement}
 use Rattle.unfolds.proofs.unfold_by.Tie as tie
-use Rattle.unfolds.proofs.unfold_by.Reads as reads
-use Rattle.unfolds.proofs.unfold_by.Lts as lts
-use Rattle.checking.proofs.check.Reads as check-reads
-use Rattle.checking.proofs.field.Reads as field-reads
-use Rattle.checking.proofs.noted.Reads as noted-reads
-use Rattle.unfolds.proofs.stop.Reads as stop-reads
 
--- src/lib.rt:523:32
 noted-requires : tie.Need-noted-requires
 noted-requires c κs = search needs
 
--- src/lib.rt:523:9
 field-requires : tie.Need-field-requires
 field-requires c κs = search needs
 
--- src/lib.rt:524:17
 cast-count : tie.Need-cast-count
 cast-count c = search needs
 
--- src/lib.rt:526:11
 check-requires : tie.Need-check-requires
 check-requires c κs = search needs
 
--- src/lib.rt:527:22
 enum-known-n : tie.Need-enum-known-n
 enum-known-n c = search needs
 
--- src/lib.rt:528:21
 enum-known-call : tie.Need-enum-known-call
 enum-known-call c = search needs
 
--- src/lib.rt:528:30
 stop-requires : tie.Need-stop-requires
 stop-requires c κs = search needs
 
--- src/lib.rt:510:1
 same-length : tie.Need-same-length
 same-length c = search needs
 
--- src/lib.rt:510:1
 returns : tie.Need-returns
 returns c = unfolds-fault _ (c .before .before .before .before .before .before .before .before .before .noted .ensures) (c .before .before .before .before .before .before .before .before .field .ensures) (c .before .before .before .before .before .check .ensures) (c .before .n .given .1)
 
--- src/lib.rt:510:1
 same-length-2 : tie.Need-same-length-2
 same-length-2 c = search needs
 
--- src/lib.rt:510:1
 returns-2 : tie.Need-returns-2
 returns-2 c = unfolds-on _ (c .before .before .before .before .before .before .before .before .before .before .before .before .before .noted .ensures) (c .before .before .before .before .before .before .before .before .before .before .before .before .field .ensures) (c .before .before .before .before .before .before .before .before .before .check .ensures) (c .before .before .before .before .before .call .given .1) (c .before .before .stop .ensures)
 

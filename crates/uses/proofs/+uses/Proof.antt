@@ -1,3 +1,4 @@
+-- `uses::uses` meets its contract.
 use mathlib.Core.Path.{refl}
 use Rattle.fields.proofs.Seqs.{seq-no, seq-on, seq-last}
 use Rattle.fields.proofs.Many.{many-none, many-some}

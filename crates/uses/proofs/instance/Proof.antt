@@ -1,3 +1,4 @@
+-- `uses::instance` meets its contract.
 use mathlib.Core.Path.{refl}
 use Rattle.fields.proofs.Seqs.{seq-no, seq-on, seq-last}
 use Rattle.grammar.specs.Certificates.{an-instance}

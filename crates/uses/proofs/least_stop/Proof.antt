@@ -1,3 +1,4 @@
+-- `uses::least_stop` meets its contract.
 use native.Mathlib.Omega.{arith}
 use Rattle.uses.proofs.least_stop.Statement.{statement}
 use Rattle.uses.proofs.least_stop.Tie as tie

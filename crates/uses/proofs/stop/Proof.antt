@@ -1,3 +1,4 @@
+-- `uses::stop` meets its contract.
 use mathlib.Core.Path.{refl}
 use Rattle.fields.proofs.Seqs.{seq-no, seq-on, seq-last}
 use Rattle.uses.proofs.Cases.{stop-none, stop-some}

@@ -1,3 +1,4 @@
+-- `uses::stop_at` meets its contract.
 use Rattle.fields.proofs.Seqs.{seq-no, seq-at}
 use Rattle.grammar.specs.Certificates.{a-stop-at}
 use borrow.Author.Needs.{needs}

@@ -1,3 +1,4 @@
+-- `fields::Cursor::look` meets its contract.
 use native.Mathlib.Omega.{arith}
 use mathlib.Core.Path.{sym, _∙_, ap}
 use Rattle.fields.specs.Source.{ofBits}
@@ -5,48 +6,34 @@ use Rattle.fields.proofs.Sources.{field-wide, field-many, field-far, fi
 use borrow.Author.Needs.{needs}
 use Rattle.fields.proofs.Cursor.look.Statement.{statement}
 use Rattle.fields.proofs.Cursor.look.Tie as tie
-use Rattle.fields.proofs.Cursor.look.Reads as reads
-use Rattle.fields.proofs.Cursor.look.Lts as lts
-use Rattle.bits.proofs.Cursor.take.Reads as take-reads
-use Rattle.fields.proofs.listed_at.Reads as listed-at-reads
 
--- src/lib.rt:59:13
 returns : tie.Need-returns
 returns c = sym (field-wide _ _ _ _ (omega arith))
 
--- src/lib.rt:62:13
 returns-2 : tie.Need-returns-2
 returns-2 c = sym (field-many _ _ _ _ (omega arith) (omega arith))
 
--- src/lib.rt:65:13
 returns-3 : tie.Need-returns-3
 returns-3 c = sym (field-far _ _ _ _ (omega arith) (omega arith) (omega arith))
 
--- src/lib.rt:68:13
 listed-at-requires : tie.Need-listed-at-requires
 listed-at-requires c κs = search needs
 
--- src/lib.rt:68:13
 returns-4 : tie.Need-returns-4
 returns-4 c = c .listed-at .ensures ∙ sym (field-listed _ _ _ _ (omega arith) (omega arith) (omega arith) (c .before .if4 .taken))
 
--- src/lib.rt:71:15
 take-requires : tie.Need-take-requires
 take-requires c κs = search needs
 
--- src/lib.rt:72:34
 enum-told : tie.Need-enum-told
 enum-told c = search needs
 
--- src/lib.rt:73:30
 enum-known-v : tie.Need-enum-known-v
 enum-known-v c = search needs
 
--- src/lib.rt:53:5
 returns-5 : tie.Need-returns-5
 returns-5 c = ap ofBits (sym (c .enum-told .given .1)) ∙ sym (field-packed _ _ _ _ (omega arith) (omega arith) (omega arith) (c .before .before .before .if4 .left) _ (c .before .before .take .ensures))
 
--- src/lib.rt:53:5
 returns-6 : tie.Need-returns-6
 returns-6 c = ap ofBits (sym (c .before .v .given .1)) ∙ sym (field-packed _ _ _ _ (omega arith) (omega arith) (omega arith) (c .before .before .before .before .if4 .left) _ (c .before .before .before .take .ensures))
 

@@ -1,56 +1,41 @@
+-- `fields::Cursor::take` meets its contract.
 use mathlib.Core.Path.{sym, _∙_}
-use native.Mathlib.Omega.{arith}
 use Rattle.fields.proofs.Sources.{got-near}
 use Rattle.fields.proofs.Runs.{field-bad, field-low, field-high, field-in}
 use borrow.Author.Needs.{needs}
 use Rattle.fields.proofs.Cursor.take.Statement.{statement}
 use Rattle.fields.proofs.Cursor.take.Tie as tie
-use Rattle.fields.proofs.Cursor.take.Reads as reads
-use Rattle.fields.proofs.Cursor.take.Lts as lts
-use Rattle.fields.proofs.Cursor.look.Reads as look-reads
-use Rattle.fields.proofs.Cursor.pass.Reads as pass-reads
 
--- src/lib.rt:112:15
 look-requires : tie.Need-look-requires
 look-requires c κs = search needs
 
--- src/lib.rt:113:24
 enum-known-m : tie.Need-enum-known-m
 enum-known-m c = search needs
 
--- src/lib.rt:114:24
 enum-known-v : tie.Need-enum-known-v
 enum-known-v c = search needs
 
--- src/lib.rt:116:21
 returns : tie.Need-returns
 returns c = field-low _ _ _ _ _ (c .before .before .before .before .look .ensures) (c .before .before .v .given .1) (c .if1 .taken)
 
--- src/lib.rt:119:21
 returns-2 : tie.Need-returns-2
 returns-2 c = field-high _ _ _ _ _ (c .before .before .before .before .before .look .ensures) (c .before .before .before .v .given .1) (c .before .if1 .left) (c .if2 .taken)
 
--- src/lib.rt:121:21
 pass-requires : tie.Need-pass-requires
 pass-requires c κs = let h = got-near _ _ _ _ _ (sym (c .before .before .before .before .before .before .before .look .ensures) ∙ c .before .before .before .before .before .v .given .1) in (h .narrow, h .few, h .close)
 
--- src/lib.rt:122:26
 cast-t20 : tie.Need-cast-t20
 cast-t20 c = search needs
 
--- src/lib.rt:99:5
 returns-3 : tie.Need-returns-3
 returns-3 c = field-bad _ _ _ _ _ (c .before .before .before .look .ensures) (c .before .m .given .1)
 
--- src/lib.rt:99:5
 same-length : tie.Need-same-length
 same-length c = search needs
 
--- src/lib.rt:99:5
 same-length-2 : tie.Need-same-length-2
 same-length-2 c = search needs
 
--- src/lib.rt:99:5
 returns-4 : tie.Need-returns-4
 returns-4 c = field-in _ _ _ _ _ (c .before .before .before .before .before .before .before .before .before .before .before .before .look .ensures) (c .before .before .before .before .before .before .before .before .before .before .v .given .1) (c .before .before .before .before .before .before .before .before .if1 .left) (c .before .before .before .before .before .before .before .if2 .left) (c .before .before .before .before .pass .ensures .0) (c .before .before .before .before .pass .ensures .1 .0) (c .before .before .before .before .pass .ensures .1 .1)
 
