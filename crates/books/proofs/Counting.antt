@@ -11,6 +11,8 @@ use Rattle.fields.specs.declared.Cursor.{Cursor}
 use Rattle.fields.specs.declared.Walk.{Walk}
 use Rattle.fields.specs.declared.Walk.the-variants.{On, No}
 use Rattle.fields.specs.Source.{Source}
+use Rattle.fields.specs.Kinds.{from-to}
+use Rattle.fields.specs.Kinds.{Kind as kind}
 use Rattle.fields.specs.Grammar.{Grammar, done, bind, field}
 use Rattle.fields.specs.Run.{State, state, Result, run, Ran}
 use Rattle.fields.specs.Run.Result.{ok, no}
@@ -23,7 +25,7 @@ use Rattle.terms.specs.Values.{nothing}
 use Rattle.grammar.specs.Limits.{call-counts}
 use Rattle.books.specs.Counts.{noted, callsOf, rulesOf, Counted}
 
-pub arities-many : Many arities-of (field 4 0 9 4)
+pub arities-many : Many arities-of (field kind.arity (from-to 0 9))
 unfolding arities-of
 arities-many = record { none = refl; more = λ n. refl }
 
@@ -62,7 +64,7 @@ rule-few {src} ar {c} {d} {ws} {bs} {ws₁} {bs₁} h e =
     let x = found h e in
     subst (λ k. k ≤ 8) (x .1)
     (always-run (λ r. callsOf r ≤ 8) src (a-rule ar)
-    (always-bind (λ v. v < 9) (λ r. callsOf r ≤ 8) _ (field 4 0 9 4) (field-below 4 0 9 4)
+    (always-bind (λ v. v < 9) (λ r. callsOf r ≤ 8) _ (field kind.call-count (from-to 0 9)) (field-below kind.call-count 0 9)
     (λ v k. always-weaken (λ r. callsOf r ≡ v) (λ r. callsOf r ≤ 8) (λ r q. omega arith) (a-rule-of ar v) (rule-calls ar v)))
     (state c ws bs) (x .0) (state d ws₁ bs₁) (x .2))
 

@@ -6,16 +6,22 @@ use mathlib.Core.Option.{none, some}
 use mathlib.Core.Logic.{_≢_}
 use native.Mathlib.Omega.{arith}
 use borrow.Author.Tests.{eq-eqb, ne-eqb}
-use lib.ListN.{getD}
+use lib.ListN.{getD, set}
 use Rattle.fields.specs.declared.Cursor.{Cursor}
+use Rattle.fields.specs.declared.Field.{Field}
+use Rattle.fields.specs.declared.Field.the-variants.{Got, Bad}
 use Rattle.fields.specs.declared.Walk.{Walk}
-use Rattle.fields.specs.declared.Walk.the-variants.{On}
-use Rattle.fields.specs.Source.{Source}
-use Rattle.fields.specs.Grammar.{done, bind}
+use Rattle.fields.specs.declared.Walk.the-variants.{On, No}
+use Rattle.fields.specs.Source.{Source, onward}
+use Rattle.fields.specs.Grammar.{done, bind, field}
 use Rattle.fields.specs.Run.{Ran}
 use Rattle.fields.proofs.Seqs.{ran-done}
 use Rattle.grammar.specs.Terms.{any-term}
-use Rattle.grammar.specs.Certificates.{a-right-if, fall-test, an-unfold, a-descent, a-kind, a-line, lines-of}
+use Rattle.fields.specs.Kinds.{one-call}
+use Rattle.fields.specs.Kinds.{Kind as kind}
+use Rattle.fields.proofs.Runs.{field-bad, field-refused, field-in}
+use Rattle.bits.specs.Put.{putField}
+use Rattle.grammar.specs.Certificates.{a-right-if, an-unfold, a-descent, a-kind, a-line, lines-of}
 use Rattle.terms.specs.Values.{nothing}
 
 -- ---- a bit that says whether a right follows
@@ -31,14 +37,17 @@ module _ (ar : ℕ → ℕ) (b : ℕ) where
 
 -- ---- the rule of a descent; `n` is how many calls the code found
 
-module _ (ms : List ℕ) (k : ℕ) {n : ℕ} (found : n ≡ getD ms k 0) where
-  pub fall-one : n ≡ 1 → fall-test ms k ≡ none
-  unfolding fall-test
-  fall-one h = rw (← found, eq-eqb n 1 h)
+module _ (src : Source) (ms : List ℕ) {c : Cursor} {ws bs : List ℕ} {x : Field} (g : x ≡ src 8 c) where
+  pub fall-bad : (m : ℕ) → x ≡ Bad m → Ran src (field kind.rule (one-call ms)) c ws bs (λ v. v) (No m c) ws bs
+  fall-bad m e = field-bad kind.rule (one-call ms) m g e
 
-  pub fall-not : n ≢ 1 → fall-test ms k ≡ some 4
-  unfolding fall-test
-  fall-not h = rw (← found, ne-eqb n 1 h)
+  module _ (k : ℕ) {n : ℕ} (e : x ≡ Got k) (found : n ≡ getD ms k 0) where
+    pub fall-not : n ≢ 1 → Ran src (field kind.rule (one-call ms)) c ws bs (λ v. v) (No 4 c) ws bs
+    fall-not h = field-refused kind.rule (one-call ms) k 4 g e (rw (← found, ne-eqb n 1 h))
+
+    pub fall-one : {d : Cursor} {ws₁ bs₁ : List ℕ} → n ≡ 1 → d ≡ onward 8 c → ws₁ ≡ set ws (c .n) k → bs₁ ≡ putField bs 8 k (c .bit)
+        → Ran src (field kind.rule (one-call ms)) c ws bs (λ v. v) (On k d) ws₁ bs₁
+    fall-one h p q s = field-in kind.rule (one-call ms) k g e (rw (← found, eq-eqb n 1 h)) refl p q s
 
 -- ---- the two kinds of line
 

@@ -7,24 +7,23 @@ use lib.ListN.{length}
 use Rattle.bits.specs.Packed.{width}
 use Rattle.fields.specs.declared.Cursor.{Cursor}
 use Rattle.fields.specs.Source.{Source, onward}
-use Rattle.fields.specs.Grammar.{Grammar, done, stop, ask, bind, Outcome, outcome, trace}
+use Rattle.fields.specs.Kinds.{bits}
+use Rattle.fields.specs.Grammar.{Grammar, done, ask, bind, Outcome, outcome, trace}
 use Rattle.fields.specs.Grammar.Outcome.{ok, no}
 use Rattle.fields.proofs.Ways.{Way, way, way-to, way-ends, way-passes}
-use Rattle.fields.proofs.Ways.Way.{over, stopped, bad, refused, pass}
+use Rattle.fields.proofs.Ways.Way.{over, bad, refused, pass}
 
 -- ---- the laws of `bind`
 
 pub bind-assoc : {A B C : Type 0} (p : Grammar A) (f : A → Grammar B) (g : B → Grammar C) → bind (bind p f) g ≡ bind p (λ a. bind (f a) g)
 unfolding bind
 bind-assoc (done a) f g = refl
-bind-assoc (stop m) f g = refl
-bind-assoc (ask w test next) f g = ap (ask w test) (fun-ext (λ v. bind-assoc (next v) f g))
+bind-assoc (ask k r next) f g = ap (ask k r) (fun-ext (λ v. bind-assoc (next v) f g))
 
 pub bind-done : {A : Type 0} (p : Grammar A) → bind p done ≡ p
 unfolding bind
 bind-done (done a) = refl
-bind-done (stop m) = refl
-bind-done (ask w test next) = ap (ask w test) (fun-ext (λ v. bind-done (next v)))
+bind-done (ask k r next) = ap (ask k r) (fun-ext (λ v. bind-done (next v)))
 
 -- ---- the way of a grammar that follows another
 
@@ -37,7 +36,6 @@ module _ {A B : Type 0} {src : Source} (f : A → Grammar B) where
 
   pub way-bind-no : {p : Grammar A} {c d : Cursor} {m : ℕ} {fs : List (ℕ × ℕ)} → Way src p c (no m d) fs → Way src (bind p f) c (no m d) fs
   unfolding bind
-  way-bind-no stopped = stopped
   way-bind-no (bad e) = bad e
   way-bind-no (refused e t) = refused e t
   way-bind-no (pass e t h) = pass e t (way-bind-no h)
@@ -91,10 +89,9 @@ after-pass w v c fs = ap₂ (λ (i j : ℕ). record { bit = i; n = j; listed = c
 
 pub way-end : {A : Type 0} {src : Source} {p : Grammar A} {c : Cursor} {o : Outcome A} {fs : List (ℕ × ℕ)} → Way src p c o fs → endOf o ≡ after c fs
 way-end {c = c} over = after-none c
-way-end {c = c} stopped = after-none c
 way-end {c = c} (bad e) = after-none c
 way-end {c = c} (refused e t) = after-none c
-way-end {c = c} (pass {w = w} {v = v} {fs = fs} e t h) = way-end h ∙ after-pass w v c fs
+way-end {c = c} (pass {k = k} {v = v} {fs = fs} e t h) = way-end h ∙ after-pass (bits k) v c fs
 
 module _ {A : Type 0} (src : Source) (p : Grammar A) (c : Cursor) where
   pub end-ok : {a : A} {d : Cursor} → outcome src p c ≡ ok a d → d ≡ after c (trace src p c)

@@ -1,5 +1,5 @@
 -- What a grammar finds is what spells a tree and stands in the source: the trace of a good run does, and fields that do are found.
-use mathlib.Core.Path.{_≡_, refl, sym, subst, subst₂}
+use mathlib.Core.Path.{_≡_, refl, sym, ap, _∙_, subst, subst₂}
 use mathlib.Core.List.{List, [], _∷_}
 use mathlib.Core.Bool.{true, false}
 use Prim.Native.Nat.{ℕ, _+_, _^_, _≤_, _<_}
@@ -8,12 +8,15 @@ use Rattle.bits.specs.Bits.{roomOf}
 use Rattle.bits.specs.Packed.{width, Reads, Sized}
 use Rattle.bits.specs.Written.{Narrow}
 use Rattle.fields.specs.declared.Cursor.{Cursor}
+use Rattle.fields.specs.declared.Field.the-variants.{Got}
 use Rattle.fields.specs.Source.{Source, onward, from}
-use Rattle.fields.specs.Grammar.{Grammar, done, stop, ask, Outcome, outcome, trace}
+use Rattle.fields.specs.Kinds.{Kind, bits, Range, test}
+use Rattle.fields.specs.Grammar.{Grammar, done, ask, look, Outcome, outcome, trace}
 use Rattle.fields.specs.Grammar.Outcome.{ok}
 use Rattle.fields.specs.Spells.{Spells}
+use Rattle.fields.proofs.Ranges.{look-got, test-look}
 use Rattle.fields.proofs.Ways.{Way, way, way-to, way-ends, way-passes}
-use Rattle.fields.proofs.Ways.Way.{over, stopped, bad, refused, pass}
+use Rattle.fields.proofs.Ways.Way.{over, bad, refused, pass}
 use Rattle.fields.proofs.Binds.{after, after-none, after-pass, end-ok}
 use Rattle.fields.proofs.Sinks.{values}
 use Rattle.fields.proofs.Spelled.{spells-sized}
@@ -26,10 +29,9 @@ use Rattle.fields.proofs.Gives.{gives-stands, stands-give, stands-take,
 pub way-gives : {A : Type 0} {src : Source} {p : Grammar A} {c : Cursor} {o : Outcome A} {fs : List (ℕ × ℕ)} → Way src p c o fs → Gives src c fs
 unfolding Gives
 way-gives over = tt
-way-gives stopped = tt
 way-gives (bad e) = tt
 way-gives (refused e t) = tt
-way-gives (pass e t h) = (e, way-gives h)
+way-gives {src = src} (pass {k = k} {r = r} {c = c} e t h) = (look-got src k r c e, way-gives h)
 
 pub way-spells : {A : Type 0} {src : Source} {p : Grammar A} {c d : Cursor} {a : A} {fs : List (ℕ × ℕ)} → Way src p c (ok a d) fs → Sized fs
     → Spells p a fs
@@ -43,11 +45,12 @@ unfolding Spells Gives
 spells-way src (done x) a c fs h g =
     subst₂ (λ y l. Way src (done x) c (ok y (after c l)) l) (sym (h .0)) (sym (h .1))
     (subst (λ d. Way src (done x) c (ok x d) []) (after-none c) over)
-spells-way src (stop m) a c fs h g = absurd h
-spells-way src (ask w test next) a c [] h g = absurd h
-spells-way src (ask w test next) a c (f ∷ fs) h g =
-    subst₂ (λ u d. Way src (ask u test next) c (ok a d) (f ∷ fs)) (h .0) (after-pass (f .0) (f .1) c fs)
-    (pass (g .0) (h .2) (spells-way src (next (f .1)) a (onward (f .0) c) fs (h .3) (g .1)))
+spells-way src (ask k r next) a c [] h g = absurd h
+spells-way src (ask k r next) a c (f ∷ fs) h g =
+    let e : look src k r c ≡ Got (f .1) = test-look src k r c (f .1) (h .2) ∙ ap (λ (w : ℕ). src w c) (sym (h .0)) ∙ g .0 in
+    subst₂ (λ l d. Way src (ask k r next) c (ok a d) l) (λ i. (sym (h .0) i, f .1) ∷ fs) (after-pass (bits k) (f .1) c fs ∙ λ i. after c ((sym (h .0) i, f .1) ∷ fs))
+    (pass e (h .2)
+    (spells-way src (next (f .1)) a (onward (bits k) c) fs (h .3) (subst (λ (w : ℕ). Gives src (onward w c) fs) (h .0) (g .1))))
 
 -- the grammar finds the tree in the source, past just these fields
 pub record Found {A : Type 0} (src : Source) (p : Grammar A) (c : Cursor) (a : A) (fs : List (ℕ × ℕ)) : Type 0 where

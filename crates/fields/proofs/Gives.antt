@@ -54,7 +54,7 @@ module _ (s l : List ℕ) (w : ℕ) (c : Cursor) where
   got-listed : (v : ℕ) → c .listed ≡ true → fieldAt s l w c ≡ Got v → (c .n < length l) × (getD l (c .n) 0 ≡ v) × (v < 2 ^ w)
   got-listed v b e = got-number l w (c .n) v (sym (from-list (got-near s l w c v e) b) ∙ e)
 
-  got-small : (v : ℕ) → fieldAt s l w c ≡ Got v → v < 2 ^ w
+  pub got-small : (v : ℕ) → fieldAt s l w c ≡ Got v → v < 2 ^ w
   got-small v e = go (c .listed) refl
     where
       go : (b : Bool) → c .listed ≡ b → v < 2 ^ w

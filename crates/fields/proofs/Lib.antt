@@ -1,5 +1,6 @@
 -- The laws of sources, grammars and runs.
 pub mod Sources
+pub mod Ranges
 pub mod Runs
 pub mod Seqs
 pub mod Ways
@@ -12,4 +13,3 @@ pub mod Trips
 pub mod Always
 pub mod Many
 pub mod Outcomes
-pub mod Widths

@@ -1,6 +1,7 @@
 -- One walk after the other: what the code's two calls come to for `bind`.
 use mathlib.Core.Path.{_≡_, refl, sym, ap, _∙_, subst}
 use mathlib.Core.List.{List}
+use mathlib.Core.Bool.{true}
 use mathlib.Core.Option.{Option, none, some}
 use Prim.Native.Nat.{ℕ}
 use native.Mathlib.Omega.{arith}
@@ -10,7 +11,8 @@ use Rattle.fields.specs.declared.Field.the-variants.{Got, Bad}
 use Rattle.fields.specs.declared.Walk.{Walk}
 use Rattle.fields.specs.declared.Walk.the-variants.{On, No}
 use Rattle.fields.specs.Source.{Source}
-use Rattle.fields.specs.Grammar.{Grammar, done, stop, ask, bind, onField, tested}
+use Rattle.fields.specs.Kinds.{Kind, bits, Range, test, spent}
+use Rattle.fields.specs.Grammar.{Grammar, done, ask, bind, look, onField, tested}
 use Rattle.fields.specs.Run.{State, state, passed, Result, run, Shown, shown, Ran}
 use Rattle.fields.specs.Run.Result.{ok, no}
 
@@ -21,26 +23,25 @@ module _ {A B : Type 0} (src : Source) (f : A → Grammar B) where
   go-on (ok a σ) = run src (f a) σ
   go-on (no m σ) = no m σ
 
-  ask-bind : (w : ℕ) (test : ℕ → Option ℕ) (next : ℕ → Grammar A) (σ : State)
+  ask-bind : (k : Kind) (r : Range) (next : ℕ → Grammar A) (σ : State)
       → ((v : ℕ) (τ : State) → run src (bind (next v) f) τ ≡ go-on (run src (next v) τ))
       → (x : Field)
-      → onField x (λ v. tested (test v) (run src (bind (next v) f) (passed w v σ)) (λ m. no m σ)) (λ m. no m σ)
-      ≡ go-on (onField x (λ v. tested (test v) (run src (next v) (passed w v σ)) (λ m. no m σ)) (λ m. no m σ))
+      → onField x (λ v. tested (test r v) (run src (bind (next v) f) (passed (bits k) v σ)) (λ m. no m σ)) (λ m. no m σ)
+      ≡ go-on (onField x (λ v. tested (test r v) (run src (next v) (passed (bits k) v σ)) (λ m. no m σ)) (λ m. no m σ))
   unfolding go-on
-  ask-bind w test next σ ih (Bad m) = refl
-  ask-bind w test next σ ih (Got v) = under (test v)
+  ask-bind k r next σ ih (Bad m) = refl
+  ask-bind k r next σ ih (Got v) = under (test r v)
     where
       under : (o : Option ℕ)
-          → tested o (run src (bind (next v) f) (passed w v σ)) (λ m. no m σ)
-          ≡ go-on (tested o (run src (next v) (passed w v σ)) (λ m. no m σ))
-      under none = ih v (passed w v σ)
+          → tested o (run src (bind (next v) f) (passed (bits k) v σ)) (λ m. no m σ)
+          ≡ go-on (tested o (run src (next v) (passed (bits k) v σ)) (λ m. no m σ))
+      under none = ih v (passed (bits k) v σ)
       under (some m) = refl
 
   pub run-bind : (p : Grammar A) (σ : State) → run src (bind p f) σ ≡ go-on (run src p σ)
   unfolding run bind go-on
   run-bind (done a) σ = refl
-  run-bind (stop m) σ = refl
-  run-bind (ask w test next) σ = ask-bind w test next σ (λ v τ. run-bind (next v) τ) (src w (σ .cursor))
+  run-bind (ask k r next) σ = ask-bind k r next σ (λ v τ. run-bind (next v) τ) (look src k r (σ .cursor))
 
 -- ---- what a walk shows of a result
 
@@ -154,29 +155,30 @@ pub ran-done : {A : Type 0} {src : Source} {val : A → ℕ} (a : A) (c : Cursor
 unfolding run
 ran-done a c ws bs = record { told = refl }
 
-pub ran-stop : {A : Type 0} {src : Source} {val : A → ℕ} (m : ℕ) (c : Cursor) (ws bs : List ℕ)
-    → Ran {A = A} src (stop m) c ws bs val (No m c) ws bs
+-- no node is allowed any more
+pub ran-spent : {A : Type 0} {src : Source} {val : A → ℕ} (k : Kind) (r : Range) (next : ℕ → Grammar A) (c : Cursor) (ws bs : List ℕ)
+    → spent r ≡ true → Ran src (ask k r next) c ws bs val (No 6 c) ws bs
 unfolding run
-ran-stop m c ws bs = record { told = refl }
+ran-spent k r next c ws bs e = record { told = rw e }
 
 -- a field that was taken alone passed its test
-pub one-tested : (src : Source) (w : ℕ) (test : ℕ → Option ℕ) (σ : State) (v : ℕ) (τ : State)
-    → run src (ask w test done) σ ≡ ok v τ → test v ≡ none
+pub one-tested : (src : Source) (k : Kind) (r : Range) (σ : State) (v : ℕ) (τ : State)
+    → run src (ask k r done) σ ≡ ok v τ → test r v ≡ none
 unfolding run
-one-tested src w test σ v τ = go (src w (σ .cursor))
+one-tested src k r σ v τ = go (look src k r (σ .cursor))
   where
-    under : (u : ℕ) (o : Option ℕ) → test u ≡ o
-        → tested o (ok u (passed w u σ)) (λ m. no m σ) ≡ ok v τ → test v ≡ none
-    under u none e p = subst (λ x. test x ≡ none) (same p) e
+    under : (u : ℕ) (o : Option ℕ) → test r u ≡ o
+        → tested o (ok u (passed (bits k) u σ)) (λ m. no m σ) ≡ ok v τ → test r v ≡ none
+    under u none e p = subst (λ x. test r x ≡ none) (same p) e
       where
-        same : _≡_ {A = Result ℕ} (ok u (passed w u σ)) (ok v τ) → u ≡ v
+        same : _≡_ {A = Result ℕ} (ok u (passed (bits k) u σ)) (ok v τ) → u ≡ v
         same q = cc
     under u (some m) e p = let z : _≡_ {A = ℕ} 0 1 = cc in absurd (omega arith)
 
     go : (x : Field)
-        → onField x (λ u. tested (test u) (ok u (passed w u σ)) (λ m. no m σ)) (λ m. no m σ) ≡ ok v τ → test v ≡ none
+        → onField x (λ u. tested (test r u) (ok u (passed (bits k) u σ)) (λ m. no m σ)) (λ m. no m σ) ≡ ok v τ → test r v ≡ none
     go (Bad m) p = let z : _≡_ {A = ℕ} 0 1 = cc in absurd (omega arith)
-    go (Got u) p = under u (test u) refl p
+    go (Got u) p = under u (test r u) refl p
 
 -- ---- a walk by its result
 

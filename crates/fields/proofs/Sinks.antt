@@ -14,11 +14,12 @@ use Rattle.bits.proofs.InOrder.{put-next}
 use Rattle.bits.proofs.PackedFields.{width-one}
 use Rattle.fields.specs.declared.Cursor.{Cursor}
 use Rattle.fields.specs.Source.{Source}
+use Rattle.fields.specs.Kinds.{bits}
 use Rattle.fields.specs.Grammar.{Grammar, Outcome, outcome, trace}
 use Rattle.fields.specs.Grammar.Outcome.{ok, no}
 use Rattle.fields.specs.Run.{state, Result, run}
 use Rattle.fields.proofs.Ways.{Way, way-to}
-use Rattle.fields.proofs.Ways.Way.{over, stopped, bad, refused, pass}
+use Rattle.fields.proofs.Ways.Way.{over, bad, refused, pass}
 
 -- the values of fields
 abbrev pub values : List (ℕ × ℕ) → List ℕ
@@ -44,10 +45,9 @@ pub way-run : {A : Type 0} {src : Source} {p : Grammar A} {c : Cursor} {o : Outc
     → run src p (state c ws bs) ≡ sunk o (sets ws (c .n) fs) (puts bs (c .bit) fs)
 unfolding run sets puts
 way-run ws bs over = refl
-way-run ws bs stopped = refl
 way-run ws bs (bad e) = rw e
 way-run ws bs (refused e t) = rw (e, t)
-way-run {c = c} ws bs (pass {w = w} {v = v} e t h) = rw (e, t) (way-run (set ws (c .n) v) (putField bs w v (c .bit)) h)
+way-run {c = c} ws bs (pass {k = k} {v = v} e t h) = rw (e, t) (way-run (set ws (c .n) v) (putField bs (bits k) v (c .bit)) h)
 
 module _ {A : Type 0} (src : Source) (p : Grammar A) (c : Cursor) (ws bs : List ℕ) where
   pub run-sunk : run src p (state c ws bs) ≡ sunk (outcome src p c) (sets ws (c .n) (trace src p c)) (puts bs (c .bit) (trace src p c))

@@ -3,31 +3,29 @@ use Prim.Native.Nat.{ℕ}
 use mathlib.Core.List.{List, [], _∷_}
 use mathlib.Core.Bool.{cond}
 use mathlib.Core.Option.{Option, none, some}
-use lib.Dec.{ltb}
 use Rattle.fields.specs.declared.Cursor.{Cursor}
 use Rattle.fields.specs.declared.Field.{Field}
 use Rattle.fields.specs.declared.Field.the-variants.{Got, Bad}
 use Rattle.fields.specs.Source.{Source, onward}
+use Rattle.fields.specs.Kinds.{Kind, bits, Range, test, spent}
 
--- `ask w test next`: a field of w bits, whose value v is refused with a number if `test v` gives one; then `next v`.
--- `stop m`: refused with m where the next field would begin.
+-- `ask k r next`: a field of the kind k and the range r; then, if its value is v, `next v`
 pub data Grammar (A : Type 0) : Type 0 where
   done : A → Grammar A
-  stop : ℕ → Grammar A
-  ask : ℕ → (ℕ → Option ℕ) → (ℕ → Grammar A) → Grammar A
+  ask : Kind → Range → (ℕ → Grammar A) → Grammar A
 
 -- one grammar after the other
 unfoldable pub bind : {A B : Type 0} → Grammar A → (A → Grammar B) → Grammar B
 bind (done a) f = f a
-bind (stop m) f = stop m
-bind (ask w test next) f = ask w test (λ v. bind (next v) f)
+bind (ask k r next) f = ask k r (λ v. bind (next v) f)
 
--- a value from `least` on and below `end`; any other is refused with m
-unfoldable pub within : ℕ → ℕ → ℕ → ℕ → Option ℕ
-within least end m v = cond (ltb v least) (some m) (cond (ltb v end) none (some m))
+-- one field alone
+unfoldable pub field : Kind → Range → Grammar ℕ
+field k r = ask k r done
 
-unfoldable pub field : ℕ → ℕ → ℕ → ℕ → Grammar ℕ
-field w least end m = ask w (within least end m) done
+-- what a source has at a cursor for a field; 6 is "found before its tag is read"
+abbrev pub look : Source → Kind → Range → Cursor → Field
+look src k r c = cond (spent r) (Bad 6) (src (bits k) c)
 
 -- what a grammar finds: its tree and the cursor past it, or the number of the first refusal and the cursor where it is given
 pub data Outcome (A : Type 0) : Type 0 where
@@ -44,13 +42,11 @@ tested (some m) good bad = bad m
 
 unfoldable pub outcome : {A : Type 0} → Source → Grammar A → Cursor → Outcome A
 outcome src (done a) c = ok a c
-outcome src (stop m) c = no m c
-outcome src (ask w test next) c =
-    onField (src w c) (λ v. tested (test v) (outcome src (next v) (onward w c)) (λ m. no m c)) (λ m. no m c)
+outcome src (ask k r next) c =
+    onField (look src k r c) (λ v. tested (test r v) (outcome src (next v) (onward (bits k) c)) (λ m. no m c)) (λ m. no m c)
 
 -- the fields that it passed on the way, each with its width
 unfoldable pub trace : {A : Type 0} → Source → Grammar A → Cursor → List (ℕ × ℕ)
 trace src (done a) c = []
-trace src (stop m) c = []
-trace src (ask w test next) c =
-    onField (src w c) (λ v. tested (test v) ((w, v) ∷ trace src (next v) (onward w c)) (λ m. [])) (λ m. [])
+trace src (ask k r next) c =
+    onField (look src k r c) (λ v. tested (test r v) ((bits k, v) ∷ trace src (next v) (onward (bits k) c)) (λ m. [])) (λ m. [])

@@ -1,5 +1,6 @@
 -- Sources of fields, grammars over them, and runs of grammars.
 pub mod Source
+pub mod Kinds
 pub mod Grammar
 pub mod Run
 pub mod Spells

@@ -8,7 +8,8 @@ use Rattle.fields.specs.declared.Cursor.{Cursor}
 use Rattle.fields.specs.declared.Walk.{Walk}
 use Rattle.fields.specs.declared.Walk.the-variants.{On, No}
 use Rattle.fields.specs.Source.{Source, onward}
-use Rattle.fields.specs.Grammar.{Grammar, done, stop, ask, onField, tested}
+use Rattle.fields.specs.Kinds.{Kind, Range, bits, test, Bounded}
+use Rattle.fields.specs.Grammar.{Grammar, done, ask, field, look, onField, tested}
 
 pub record State : Type 0 where
   pub cursor : Cursor
@@ -32,9 +33,8 @@ pub data Result (A : Type 0) : Type 0 where
 
 unfoldable pub run : {A : Type 0} → Source → Grammar A → State → Result A
 run src (done a) σ = ok a σ
-run src (stop m) σ = no m σ
-run src (ask w test next) σ =
-    onField (src w (σ .cursor)) (λ v. tested (test v) (run src (next v) (passed w v σ)) (λ m. no m σ)) (λ m. no m σ)
+run src (ask k r next) σ =
+    onField (look src k r (σ .cursor)) (λ v. tested (test r v) (run src (next v) (passed (bits k) v σ)) (λ m. no m σ)) (λ m. no m σ)
 
 -- what the code shows of a result: of a tree only a number
 pub record Shown : Type 0 where
@@ -49,3 +49,7 @@ shown val (no m σ) = record { walk = No m (σ .cursor); words = σ .words; byte
 -- a walk that began at c, with the outputs ws and bs, came to r and left ws₁ and bs₁
 pub record Ran {A : Type 0} (src : Source) (p : Grammar A) (c : Cursor) (ws bs : List ℕ) (val : A → ℕ) (r : Walk) (ws₁ bs₁ : List ℕ) : Type 0 where
   pub told : record { walk = r; words = ws₁; bytes = bs₁ } ≡ shown val (run src p (state c ws bs))
+
+-- the same of one field, of whatever kind and range the two bounds tell
+pub record Took (src : Source) (w least end m : ℕ) (c : Cursor) (ws bs : List ℕ) (r : Walk) (ws₁ bs₁ : List ℕ) : Type 0 where
+  pub ran : (k : Kind) (range : Range) → Bounded k range w least end m → Ran src (field k range) c ws bs (λ v. v) r ws₁ bs₁

@@ -4,8 +4,7 @@ ghost use Prim.Native.Nat.{_<_, _≤_, _^_};
 ghost use lib.ListN.{set};
 ghost use Rattle.bits.specs.Put.{putField};
 ghost use Rattle.fields.specs.Source.{listedField, fieldAt, from, onward};
-ghost use Rattle.fields.specs.Grammar.{field};
-ghost use Rattle.fields.specs.Run.{Ran};
+ghost use Rattle.fields.specs.Run.{Took};
 
 // How far a walk has come: the bits and the fields passed. The next field stands at bit `bit` of the bytes or, if the
 // source is a list, at place `n` of the list.
@@ -114,7 +113,7 @@ impl Cursor {
         words: &mut [u16],
         bytes: &mut [u8],
     ) -> Walk
-        ensures { λ r. ⌜ Ran (from (now (s .entry)) (now (l .entry))) (field w least end number) self (now (words .entry)) (now (bytes .entry)) (λ v. v) r (now (words .exit)) (now (bytes .exit)) ⌝ }
+        ensures { λ r. ⌜ Took (from (now (s .entry)) (now (l .entry))) w least end number self (now (words .entry)) (now (bytes .entry)) r (now (words .exit)) (now (bytes .exit)) ⌝ }
     {
         match self.look(w, s, l) {
             Field::Bad(m) => Walk::No(m, self),

@@ -7,6 +7,7 @@ use native.Mathlib.Omega.{arith}
 use lib.ListN.{length, length-map}
 use Rattle.patterns.specs.Every.{Every}
 use Rattle.patterns.proofs.Every.{every-map, every-weaken}
+use Rattle.fields.specs.Kinds.{Kind as kind}
 use Rattle.fields.specs.Grammar.{done, bind}
 use Rattle.fields.specs.Spells.{Spells}
 use Rattle.grammar.specs.Terms.{root-term}
@@ -14,7 +15,7 @@ use Rattle.grammar.specs.Books.{RuleBook, arity-in, arities-of, a-signat
 use Rattle.grammar.specs.Limits.{RootFits, RuleFits, BookFits, call-counts}
 use Rattle.grammar.specs.Listing.{Fields, term-fields, arity-fields, signature-fields, rule-fields, book-fields}
 use Rattle.grammar.proofs.Spelling.{bind-made}
-use Rattle.grammar.proofs.Exactness.{Exactly, exact, refit, same, field-exactly, both, keyed, no-more, more}
+use Rattle.grammar.proofs.Exactness.{Exactly, exact, refit, same, any-exactly, from-to-exactly, both, keyed, no-more, more}
 use Rattle.grammar.proofs.TermFields.{Signature, root-exactly}
 
 -- ---- the arities
@@ -24,7 +25,7 @@ unfolding arities-of Every arity-fields
 arities-exactly zero = no-more arity-fields tt
 arities-exactly (suc n) =
     more
-    (field-exactly 4 0 9 4 (omega arith))
+    (from-to-exactly kind.arity 0 9 (omega arith))
     (λ a h. arities-exactly n)
     (λ a l h k. (omega arith, k))
     (λ a l h. (omega arith, h .1))
@@ -33,9 +34,9 @@ pub signature-exactly : Exactly a-signature Signature signature-fields
 unfolding a-signature signature-fields
 signature-exactly =
     refit
-    (keyed 8 0 256 4 length (omega arith) (λ n h. arities-exactly n))
-    (λ l h. record { small = h .2; count = h .1 })
-    (λ l h. (omega arith, h .count, h .small))
+    (keyed length (any-exactly kind.symbol-count) (λ n h. arities-exactly n))
+    (λ l h. record { small = h .1; count = h .0 })
+    (λ l h. (h .count, h .small))
 
 -- ---- the rules
 
@@ -68,9 +69,9 @@ module _ (arities : List ℕ) (sig : Signature arities) where
   unfolding a-rule rule-fields
   rule-exactly =
       refit
-      (keyed 4 0 9 4 (λ r. length (r .calls)) (omega arith) (λ n h. rule-of-exactly n))
-      (λ r h. let l = h .1 in record { head = h .2 .0; calls = h .2 .1; count = omega arith })
-      (λ r h. let l = h .count in (omega arith, omega arith, (h .head, h .calls)))
+      (keyed (λ r. length (r .calls)) (from-to-exactly kind.call-count 0 9 (omega arith)) (λ n h. rule-of-exactly n))
+      (λ r h. let l = h .0 .1 in record { head = h .1 .0; calls = h .1 .1; count = omega arith })
+      (λ r h. let l = h .count in ((omega arith, omega arith), (h .head, h .calls)))
 
   pub rules-exactly : (n : ℕ)
       → Exactly (rules-of (arity-in arities) n) (λ rs. (length rs ≡ n) × Every (RuleFits arities) rs) (flatMap rule-fields)
@@ -82,9 +83,9 @@ module _ (arities : List ℕ) (sig : Signature arities) where
   unfolding a-rule-list
   rule-list-exactly =
       refit
-      (keyed 8 0 256 4 length (omega arith) (λ n h. rules-exactly n))
-      (λ rs h. (h .1, h .2))
-      (λ rs h. (omega arith, h .0, h .1))
+      (keyed length (any-exactly kind.rule-count) (λ n h. rules-exactly n))
+      (λ rs h. h)
+      (λ rs h. h)
 
 pub a-book-exactly : Exactly a-book BookFits book-fields
 unfolding a-book book-fields

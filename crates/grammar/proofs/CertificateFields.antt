@@ -4,24 +4,26 @@ use mathlib.Core.Logic.{_↔_}
 use mathlib.Core.Path.{_≡_, refl, sym, ap, subst}
 use mathlib.Core.List.{List, [], _∷_, _++_, flatMap}
 use mathlib.Core.Option.{Option, none, some, Option·some-injective}
-use mathlib.Core.Bool.{Bool, true, false, cond}
+use mathlib.Core.Bool.{cond}
 use native.Mathlib.Omega.{arith}
 use lib.ListN.{length, getD, getElem?}
 use lib.Dec.{eqb}
-use borrow.Author.Tests.{eqb-true, eq-eqb}
 use Rattle.patterns.specs.Every.{Every}
 use Rattle.patterns.specs.First.{Exp, Pair, Pace}
 use Rattle.patterns.specs.Certificate.{Fills, Use, Stop, fact, call, Kind, unfolds, descends, Certificate}
 use Rattle.patterns.specs.Checks.{OnMark}
+use Rattle.fields.specs.Kinds.{any, from-to, one-call, InRange, Unnormal, Spent}
+use Rattle.fields.specs.Kinds.{Kind as kind}
+use Rattle.fields.proofs.Ranges.{passes-exactly}
 use Rattle.fields.specs.Grammar.{done, bind, field}
 use Rattle.fields.specs.Spells.{Spells}
 use Rattle.grammar.specs.Terms.{any-term}
 use Rattle.grammar.specs.Books.{RuleBook, arity-in}
-use Rattle.grammar.specs.Certificates.{a-right-if, a-right, a-claim, an-index, an-instance, a-use, uses-of, a-last-if, a-last, a-stop, a-stopped, a-stop-at, an-unfold, fall-test, a-fall, a-descent, a-kind, a-line-of, a-line, lines-of, a-pace, a-closed, a-closing, a-certificate-of, a-certificate}
+use Rattle.grammar.specs.Certificates.{a-right-if, a-right, a-claim, an-index, an-instance, a-use, uses-of, a-last-if, a-last, a-stop, a-stopped, a-stop-at, an-unfold, a-fall, a-descent, a-kind, a-line-of, a-line, lines-of, a-pace, a-closed, a-closing, a-certificate-of, a-certificate}
 use Rattle.grammar.specs.Limits.{TermFits, BookFits, call-counts, FillsFit, UseFits, ClaimFits, LastFits, StopFits, KindFits, LinesFit, ClosingFits, CertificateFits}
 use Rattle.grammar.specs.Listing.{Fields, if-any, term-fields, filling-fields, claim-fields, use-fields, stop-number, stop-fields, kind-fields, kind-number, line-fields, closing-fields, certificate-fields}
 use Rattle.grammar.proofs.Spelling.{bind-made}
-use Rattle.grammar.proofs.Exactness.{Exactly, exact, refit, same, done-exactly, ask-exactly, field-exactly, both, keyed, no-more, more, maybe-exactly}
+use Rattle.grammar.proofs.Exactness.{Exactly, exact, refit, same, done-exactly, field-exactly, any-exactly as bits-exactly, from-to-exactly, both, keyed, no-more, more, maybe-exactly}
 use Rattle.grammar.proofs.TermFields.{Signature, any-exactly}
 use Rattle.grammar.proofs.FillingFields.{filling-exactly}
 use Rattle.grammar.proofs.BookFields.{book-signature, call-counts-few, call-counts-small}
@@ -49,30 +51,22 @@ few-calls [] h k = omega arith
 few-calls (m ∷ ms) h zero = h .0
 few-calls (m ∷ ms) h (suc k) = few-calls ms (h .1) k
 
-fall-passed : (ms : List ℕ) (k : ℕ) → fall-test ms k ≡ none → getD ms k 0 ≡ 1
-unfolding fall-test
-fall-passed ms k p = go (eqb (getD ms k 0) 1) refl p
-  where
-    go : (b : Bool) → eqb (getD ms k 0) 1 ≡ b → cond {A = Option ℕ} b none (some 4) ≡ none → getD ms k 0 ≡ 1
-    go true e q = eqb-true (getD ms k 0) 1 e
-    go false e q = let z : _≡_ {A = ℕ} 0 1 = cc in absurd (omega arith)
-
 pub index-exactly : Exactly an-index (λ r. (r .0 < 4096) × (r .1 < 4096)) (λ r. (12, r .0) ∷ (12, r .1) ∷ [])
 unfolding an-index
 index-exactly =
     both
-    (field-exactly 12 0 4096 4 (omega arith))
-    (λ i h. field-exactly 12 0 4096 4 (omega arith))
+    (bits-exactly kind.index-i)
+    (λ i h. bits-exactly kind.index-j)
     (λ i j. (i, j))
-    (λ i j h k. ((h .1, k .1), refl))
-    (λ r h. (r .0, r .1, (omega arith, h .0), (omega arith, h .1), refl))
+    (λ i j h k. ((h, k), refl))
+    (λ r h. (r .0, r .1, h .0, h .1, refl))
 
 pub pace-exactly : Exactly a-pace (λ s. s .α + s .k ≤ 4095) (λ s. (12, s .k) ∷ (12, s .α) ∷ [])
 unfolding a-pace
 pace-exactly =
     both
-    (field-exactly 12 0 4096 4 (omega arith))
-    (λ k h. field-exactly 12 0 (4096 - k) 4 (omega arith))
+    (bits-exactly kind.step-k)
+    (λ k h. from-to-exactly kind.start-α 0 (4096 - k) (omega arith))
     (λ k α. record { k = k; α = α })
     (λ k α h l. (omega arith, refl))
     (λ s h. (s .k, s .α, omega arith, omega arith, refl))
@@ -84,8 +78,8 @@ module _ (arities : List ℕ) (sig : Signature arities) where
   unfolding a-right a-right-if OnMark
   right-exactly =
       same
-      (λ i. bind (field 1 0 2 4) λ b. cond (eqb b 0) (done none) (bind-made (any-term (arity-in arities)) (λ g. g .term) (λ t. done (some t)) i))
-      (maybe-exactly (OnMark (TermFits arities 4096)) tt (λ t h. h) (λ t h. h) (any-exactly arities sig))
+      (λ i. bind (field kind.right-bit any) λ b. cond (eqb b 0) (done none) (bind-made (any-term (arity-in arities)) (λ g. g .term) (λ t. done (some t)) i))
+      (maybe-exactly kind.right-bit refl (OnMark (TermFits arities 4096)) tt (λ t h. h) (λ t h. h) (any-exactly arities sig))
 
   pub claim-exactly : Exactly (a-claim (arity-in arities)) (ClaimFits arities) claim-fields
   unfolding a-claim claim-fields
@@ -124,7 +118,7 @@ module _ (arities : List ℕ) (sig : Signature arities) where
   unfolding a-closing closing-fields
   closing-exactly n h =
       both
-      (field-exactly 8 0 n 4 (omega arith))
+      (from-to-exactly kind.named-line 0 n (omega arith))
       (λ l k. closed-exactly)
       (λ l q. record { line = l; pace = q .0; fills = q .1 })
       (λ l q k m. (record { line = k .1; pace = m .0; fills = m .1 }, refl))
@@ -135,7 +129,7 @@ module _ (arities : List ℕ) (sig : Signature arities) where
     unfolding a-use use-fields
     use-exactly =
         both
-        (field-exactly 8 0 line 4 (omega arith))
+        (from-to-exactly kind.used-line 0 line (omega arith))
         (λ l h. instance-exactly)
         (λ l q. record { line = l; index = q .0; fills = q .1 })
         (λ l q h k. (record { earlier = h .1; i = k .0 .0; j = k .0 .1; fills = k .1 }, refl))
@@ -149,7 +143,7 @@ module _ (arities : List ℕ) (sig : Signature arities) where
 
     pub last-exactly : Exactly (a-last (arity-in arities) line) (LastFits arities line) (if-any use-fields)
     unfolding a-last a-last-if LastFits
-    last-exactly = maybe-exactly (LastFits arities line) tt (λ u h. h) (λ u h. h) use-exactly
+    last-exactly = maybe-exactly kind.use-bit refl (LastFits arities line) tt (λ u h. h) (λ u h. h) use-exactly
 
     -- ---- where an unfold stops
 
@@ -212,32 +206,32 @@ module _ (arities : List ℕ) (sig : Signature arities) where
     unfolding a-stop-at
     stop-at-exactly m h =
         refit
-        (keyed 4 (min m 1) (m + 1) 4 (λ q. stop-number (q .1)) (omega arith) (λ i k. stopped-exactly i))
-        (λ q k. (k .2 .0, stop-fits m (q .1) (k .0) (k .1) (k .2 .1)))
-        (λ q k. let r = fits-stop m (q .1) (k .1) in (r .0, r .1, (k .0, r .2)))
+        (keyed (λ q. stop-number (q .1)) (from-to-exactly kind.stop-number (min m 1) (m + 1) (omega arith)) (λ i k. stopped-exactly i))
+        (λ q k. (k .1 .0, stop-fits m (q .1) (k .0 .0) (k .0 .1) (k .1 .1)))
+        (λ q k. let r = fits-stop m (q .1) (k .1) in ((r .0, r .1), (k .0, r .2)))
 
   module _ (ms : List ℕ) (few : length ms < 256) (short : Every (λ m. m ≤ 8) ms) where
     -- ---- the two kinds of line
 
     pub fall-exactly : Exactly (a-fall (arity-in arities) ms) (λ q. (getElem? ms (q .0) ≡ some 1) × FillsFit arities (q .1)) (λ q. (8, q .0) ∷ filling-fields (q .1))
-    unfolding a-fall fall-test
+    unfolding a-fall InRange Unnormal Spent
     fall-exactly =
         both
-        (ask-exactly 8 (fall-test ms))
+        (field-exactly kind.rule (one-call ms))
         (λ k h. filling-exactly arities sig)
         (λ k θ. (k, θ))
-        (λ k θ h l. ((one-listed ms k (fall-passed ms k (h .1)), l), refl))
+        (λ k θ h l. ((one-listed ms k (passes-exactly (one-call ms) k .0 (h .1) .1), l), refl))
         (λ q h.
         let r = number-listed ms (q .0) 1 (h .0) in
         let l = r .0 in
-        (q .0, q .1, (omega arith, rw (eq-eqb _ _ (r .1))), h .1, refl))
+        (q .0, q .1, (omega arith, passes-exactly (one-call ms) (q .0) .1 ((λ z. z), r .1, (λ z. z))), h .1, refl))
 
     module _ (line : ℕ) (early : line ≤ 256) where
       pub unfold-exactly : Exactly (an-unfold (arity-in arities) ms line) (λ q. (kind-number q ≡ 0) × KindFits arities ms line q) kind-fields
       unfolding an-unfold kind-fields kind-number KindFits
       unfold-exactly =
           both
-          (field-exactly 8 0 (length ms) 4 (omega arith))
+          (from-to-exactly kind.rule 0 (length ms) (omega arith))
           (λ k h. stop-at-exactly line early (getD ms k 0) (few-calls ms short k))
           (λ k q. unfolds k (q .0) (q .1))
           (λ k q h l. ((refl, (getD ms k 0, listed-number ms k (h .1), l .0, l .1)), refl))
@@ -291,9 +285,9 @@ module _ (arities : List ℕ) (sig : Signature arities) where
       unfolding a-line line-fields kind-number
       line-exactly =
           refit
-          (keyed 1 0 2 4 (λ l. kind-number (l .kind)) (omega arith) line-of-exactly)
-          (λ l h. h .2)
-          (λ l h. (omega arith, kind-below (l .kind), h))
+          (keyed (λ l. kind-number (l .kind)) (bits-exactly kind.line-kind) line-of-exactly)
+          (λ l h. h .1)
+          (λ l h. (kind-below (l .kind), h))
         where
           kind-below : (q : Kind Exp Pair) → kind-number q < 2
           kind-below (unfolds k θ s) = omega arith
@@ -330,9 +324,9 @@ module _ (arities : List ℕ) (sig : Signature arities) where
     unfolding a-certificate certificate-fields
     whole-exactly =
         refit
-        (keyed 8 0 256 4 (λ K. length (K .lines)) (omega arith) certificate-of-exactly)
-        (λ K h. (h .1, h .2 .0, h .2 .1))
-        (λ K h. (omega arith, h .0, (h .1, h .2)))
+        (keyed (λ K. length (K .lines)) (bits-exactly kind.line-count) certificate-of-exactly)
+        (λ K h. (h .0, h .1 .0, h .1 .1))
+        (λ K h. (h .0, (h .1, h .2)))
 
 pub a-certificate-exactly : (b : RuleBook) → BookFits b
     → Exactly (a-certificate (arity-in (b .arities)) (call-counts (b .rules))) (CertificateFits b) certificate-fields

@@ -4,14 +4,16 @@ use mathlib.Core.Logic.{_↔_}
 use mathlib.Core.Path.{_≡_, refl, sym, _∙_, ap, ap₂, subst}
 use mathlib.Core.List.{List, [], _∷_, _++_, flatMap}
 use mathlib.Core.Option.{Option, none, some}
+use Rattle.fields.specs.Kinds.{Kind, bits, Range, any, from-to, test}
+use Rattle.fields.proofs.Ranges.{within-ok, within-none}
 use mathlib.Core.Bool.{cond}
 use native.Mathlib.Omega.{arith}
 use lib.ListN.{length}
 use lib.Dec.{eqb}
-use Rattle.fields.specs.Grammar.{Grammar, done, ask, bind, field}
+use Rattle.fields.specs.Grammar.{Grammar, done, bind, field}
 use Rattle.fields.specs.Spells.{Spells}
 use Rattle.grammar.specs.Listing.{Fields, if-any}
-use Rattle.grammar.proofs.Spelling.{spells-bind, spells-split, spells-make, spells-made, spells-one, ask-forth, ask-back, field-forth, field-back}
+use Rattle.grammar.proofs.Spelling.{spells-bind, spells-split, spells-make, spells-made, spells-one, ask-forth, ask-back}
 
 pub record Exactly {A : Type 0} (p : Grammar A) (Fits : A → Type 0) (fields : A → Fields) : Type 0 where
   pub forth : (a : A) (fs : Fields) → Spells p a fs → Fits a × (fs ≡ fields a)
@@ -56,19 +58,21 @@ done-exactly {R} {h} r e only = record {
 
 -- ---- fields
 
-pub ask-exactly : (w : ℕ) (test : ℕ → Option ℕ)
-    → Exactly (ask w test done) (λ v. (v < 2 ^ w) × (test v ≡ none)) (λ v. (w, v) ∷ [])
-ask-exactly w test = record {
-  forth = λ v fs s. let r = ask-forth w test v fs s in ((r .1, r .2), r .0);
-  back = λ v h. ask-back w test v (h .0) (h .1);
+pub field-exactly : (k : Kind) (r : Range) → Exactly (field k r) (λ v. (v < 2 ^ bits k) × (test r v ≡ none)) (λ v. (bits k, v) ∷ [])
+unfolding field
+field-exactly k r = record {
+  forth = λ v fs s. let x = ask-forth k r v fs s in ((x .1, x .2), x .0);
+  back = λ v h. ask-back k r v (h .0) (h .1);
 }
 
-pub field-exactly : (w least end m : ℕ) → end ≤ 2 ^ w
-    → Exactly (field w least end m) (λ v. (least ≤ v) × (v < end)) (λ v. (w, v) ∷ [])
-field-exactly w least end m h = record {
-  forth = λ v fs s. let r = field-forth w least end m v fs s in ((r .1, r .2), r .0);
-  back = λ v k. field-back w least end m v (k .0) (k .1) (omega arith);
-}
+pub any-exactly : (k : Kind) → Exactly (field k any) (λ v. v < 2 ^ bits k) (λ v. (bits k, v) ∷ [])
+any-exactly k = refit (field-exactly k any) (λ v h. h .0) (λ v h. (h, refl))
+
+pub from-to-exactly : (k : Kind) (least end : ℕ) → end ≤ 2 ^ bits k
+    → Exactly (field k (from-to least end)) (λ v. (least ≤ v) × (v < end)) (λ v. (bits k, v) ∷ [])
+from-to-exactly k least end h =
+    refit (field-exactly k (from-to least end)) (λ v x. within-none least end 4 v (x .1))
+    (λ v x. let l = x .1 in (omega arith, within-ok least end 4 v (x .0) l))
 
 -- ---- one after the other
 
@@ -136,15 +140,12 @@ both {A} {B} {C} {p} {P} {f} {q} {Q} {g} {R} {h} e d mk to from = record {
 
 -- ---- a number that the tree behind it tells
 
-pub keyed : {A : Type 0} {q : ℕ → Grammar A} {R : A → Type 0} {g : A → Fields} (w least end m : ℕ) (key : A → ℕ) → end ≤ 2 ^ w
-    → ((n : ℕ) → n < end → Exactly (q n) (λ a. (key a ≡ n) × R a) g)
-    → Exactly (bind (field w least end m) q) (λ a. (least ≤ key a) × (key a < end) × R a) (λ a. (w, key a) ∷ g a)
-keyed w least end m key h d =
-    after
-    (field-exactly w least end m h)
-    (λ n k. d n (k .1))
-    (λ n a k l. ((subst (λ v. least ≤ v) (sym (l .0)) (k .0), subst (λ v. v < end) (sym (l .0)) (k .1), l .1), (cc (l .0))))
-    (λ a r. (key a, (r .0, r .1), (refl, r .2)))
+pub keyed : {A : Type 0} {q : ℕ → Grammar A} {R : A → Type 0} {g : A → Fields} {p : Grammar ℕ} {P : ℕ → Type 0} {w : ℕ} (key : A → ℕ)
+    → Exactly p P (λ v. (w, v) ∷ [])
+    → ((n : ℕ) → P n → Exactly (q n) (λ a. (key a ≡ n) × R a) g)
+    → Exactly (bind p q) (λ a. P (key a) × R a) (λ a. (w, key a) ∷ g a)
+keyed {P = P} key e d =
+    after e d (λ n a h l. ((subst P (sym (l .0)) h, l .1), (cc (l .0)))) (λ a h. (key a, h .0, (refl, h .1)))
 
 -- ---- lists
 
@@ -183,14 +184,14 @@ behind-bit : {A : Type 0} → (A → Fields) → Option A → Fields
 behind-bit f none = []
 behind-bit f (some a) = f a
 
-pub maybe-exactly : {A : Type 0} {p : Grammar A} {P : A → Type 0} {f : A → Fields} (R : Option A → Type 0) → R none
+pub maybe-exactly : (k : Kind) → bits k ≡ 1 → {A : Type 0} {p : Grammar A} {P : A → Type 0} {f : A → Fields} (R : Option A → Type 0) → R none
     → ((a : A) → P a → R (some a))
     → ((a : A) → R (some a) → P a)
     → Exactly p P f
-    → Exactly (bind (field 1 0 2 4) λ b. cond (eqb b 0) (done none) (bind p λ a. done (some a))) R (if-any f)
+    → Exactly (bind (field k any) λ b. cond (eqb b 0) (done none) (bind p λ a. done (some a))) R (if-any f)
 unfolding present behind-bit if-any
-maybe-exactly {A} {p} {P} {f} R r to from e =
-    after (field-exactly 1 0 2 4 (omega arith)) (λ b k. choice b (k .1)) joined told
+maybe-exactly k one {A} {p} {P} {f} R r to from e =
+    after (any-exactly k) (λ b h. choice b (rw one at h)) joined told
   where
     nothing : (o : Option A) → (present o ≡ 0) × R o → o ≡ none
     nothing none h = refl
@@ -206,11 +207,11 @@ maybe-exactly {A} {p} {P} {f} R r to from e =
     choice (suc zero) h = made e some (λ a k. ((refl, to a k), refl)) something
     choice (suc (suc b)) h = absurd (omega arith)
 
-    joined : (b : ℕ) (o : Option A) → (0 ≤ b) × (b < 2) → (present o ≡ b) × R o
-        → R o × ((1, b) ∷ behind-bit f o ≡ if-any f o)
-    joined b none k h = (h .1, (cc (h .0)))
-    joined b (some a) k h = (h .1, (cc (h .0)))
+    joined : (b : ℕ) (o : Option A) → b < 2 ^ bits k → (present o ≡ b) × R o
+        → R o × ((bits k, b) ∷ behind-bit f o ≡ if-any f o)
+    joined b none l h = (h .1, (cc (h .0, one)))
+    joined b (some a) l h = (h .1, (cc (h .0, one)))
 
-    told : (o : Option A) → R o → (b : ℕ) × ((0 ≤ b) × (b < 2)) × ((present o ≡ b) × R o)
-    told none h = (0, (omega arith, omega arith), (refl, h))
-    told (some a) h = (1, (omega arith, omega arith), (refl, h))
+    told : (o : Option A) → R o → (b : ℕ) × (b < 2 ^ bits k) × ((present o ≡ b) × R o)
+    told none h = (0, rw one (omega arith), (refl, h))
+    told (some a) h = (1, rw one (omega arith), (refl, h))

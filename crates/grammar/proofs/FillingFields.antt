@@ -4,13 +4,15 @@ use mathlib.Core.Path.{_≡_, refl}
 use mathlib.Core.List.{List, flatMap}
 use native.Mathlib.Omega.{arith}
 use lib.ListN.{length}
+use Rattle.fields.specs.Kinds.{from-to}
+use Rattle.fields.specs.Kinds.{Kind as kind}
 use Rattle.fields.specs.Grammar.{done, bind, field}
 use Rattle.grammar.specs.Terms.{any-term, a-pair, pairs-of, a-filling}
 use Rattle.grammar.specs.Books.{arity-in}
 use Rattle.grammar.specs.Limits.{TermFits, Rising, FillsFit}
 use Rattle.grammar.specs.Listing.{pair-fields, filling-fields}
 use Rattle.grammar.proofs.Spelling.{bind-made}
-use Rattle.grammar.proofs.Exactness.{Exactly, refit, same, field-exactly, both, keyed, no-more, more}
+use Rattle.grammar.proofs.Exactness.{Exactly, refit, same, from-to-exactly, both, keyed, no-more, more}
 use Rattle.grammar.proofs.TermFields.{Signature, any-exactly}
 
 module _ (arities : List ℕ) (sig : Signature arities) where
@@ -19,9 +21,9 @@ module _ (arities : List ℕ) (sig : Signature arities) where
   unfolding a-pair pair-fields
   pair-exactly least =
       same
-      (λ i. bind (field 6 least 64 4) λ x. bind-made (any-term (arity-in arities)) (λ g. g .term) (λ t. done (x, t)) i)
+      (λ i. bind (field kind.filled-variable (from-to least 64)) λ x. bind-made (any-term (arity-in arities)) (λ g. g .term) (λ t. done (x, t)) i)
       (both
-      (field-exactly 6 least 64 4 (omega arith))
+      (from-to-exactly kind.filled-variable least 64 (omega arith))
       (λ x h. any-exactly arities sig)
       (λ x t. (x, t))
       (λ x t h k. ((h .0, h .1, k), refl))
@@ -42,6 +44,6 @@ module _ (arities : List ℕ) (sig : Signature arities) where
   unfolding a-filling filling-fields
   filling-exactly =
       refit
-      (keyed 7 0 65 4 length (omega arith) (λ n h. pairs-exactly n 0))
-      (λ θ h. let l = h .1 in record { count = omega arith; rising = h .2 })
-      (λ θ h. let l = h .count in (omega arith, omega arith, h .rising))
+      (keyed length (from-to-exactly kind.filling-count 0 65 (omega arith)) (λ n h. pairs-exactly n 0))
+      (λ θ h. let l = h .0 .1 in record { count = omega arith; rising = h .1 })
+      (λ θ h. let l = h .count in ((omega arith, omega arith), h .rising))

@@ -7,4 +7,3 @@ pub mod BookFields
 pub mod CertificateFields
 pub mod OneToOne
 pub mod FixedBooks
-pub mod AllWidths

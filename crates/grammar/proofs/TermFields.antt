@@ -3,25 +3,24 @@ use Prim.Native.Nat.{ℕ, zero, suc, _+_, _-_, _≤_, _<_}
 use mathlib.Core.Path.{_≡_, refl, sym, ap}
 use mathlib.Core.Logic.{_≢_}
 use mathlib.Core.List.{List, [], _∷_}
-use mathlib.Core.Option.{Option, none, some}
-use mathlib.Core.Bool.{Bool, true, false, cond}
 use native.Mathlib.Omega.{arith}
 use lib.ListN.{length}
-use lib.Dec.{eqb, leb, eqb·suc-zero}
-use borrow.Author.Tests.{eqb-true, eqb-false, leb-true, eq-eqb, ne-eqb, le-leb}
 use Rattle.patterns.specs.Term.{Terms, var, fun, pow, nil, cons, size, size*}
 use Rattle.patterns.specs.Counters.{more, alone}
 use Rattle.patterns.specs.Normal.{Over, Normal, Normal*}
 use Rattle.patterns.specs.Formed.{arguments, Formed, Formed*}
 use Rattle.patterns.specs.Every.{Every}
 use Rattle.patterns.specs.First.{Exp, ex, Pattern, exponents}
-use Rattle.fields.specs.Grammar.{Grammar, done, stop, bind, field}
+use Rattle.fields.specs.Kinds.{any, from-to, applied, unary, beside, node, InRange, Unnormal, Spent}
+use Rattle.fields.specs.Kinds.{Kind as kind}
+use Rattle.fields.proofs.Ranges.{passes-exactly}
+use Rattle.fields.specs.Grammar.{Grammar, done, bind, field}
 use Rattle.fields.specs.Spells.{Spells}
-use Rattle.grammar.specs.Terms.{symbol-test, a-symbol, unary-test, a-unary, an-exponent, Grown, GrownAll, args-of, a-variable, an-applied, a-raise, a-raised, a-node, a-term, any-term, root-term}
+use Rattle.grammar.specs.Terms.{a-symbol, a-unary, an-exponent, Grown, GrownAll, args-of, a-variable, an-applied, a-raise, a-raised, a-node, a-term, any-term, root-term}
 use Rattle.grammar.specs.Books.{arity-in}
 use Rattle.grammar.specs.Limits.{Ranged, Ranged*, TermFits, Rooted, RootFits}
 use Rattle.grammar.specs.Listing.{Fields, term-fields, terms-fields}
-use Rattle.grammar.proofs.Exactness.{Exactly, refit, same, ask-exactly, field-exactly, done-exactly, made, after, both}
+use Rattle.grammar.proofs.Exactness.{Exactly, refit, same, field-exactly, any-exactly as bits-exactly, from-to-exactly, done-exactly, made, after, both}
 
 -- ---- the arities
 
@@ -44,48 +43,28 @@ known-symbol (a ∷ l) (suc f) k = let r = known-symbol l f k in omega arith
 
 -- ---- a symbol's field and a power's fields
 
-no-path : {A : Type 0} {m : ℕ} → some m ≡ none → A
-no-path p = let z : _≡_ {A = ℕ} 0 1 = cc in absurd (omega arith)
+nonzero-forth : (a b : ℕ) → ¬ ((a ≡ 0) × (b ≡ 0)) → ex a b ≢ ex 0 0
+nonzero-forth a b h p = h (ap (λ (x : Exp). x .0) p, ap (λ (x : Exp). x .1) p)
 
-symbol-passed : (ar : ℕ → ℕ) (f : ℕ) → symbol-test ar f ≡ none → (ar f ≢ 1) × (ar f ≤ 8)
-unfolding symbol-test
-symbol-passed ar f p = go (eqb (ar f) 1) (leb (ar f) 8) refl refl p
-  where
-    go : (b c : Bool) → eqb (ar f) 1 ≡ b → leb (ar f) 8 ≡ c → cond {A = Option ℕ} b (some 4) (cond c none (some 4)) ≡ none
-        → (ar f ≢ 1) × (ar f ≤ 8)
-    go true c e d q = no-path q
-    go false true e d q = (eqb-false (ar f) 1 e, leb-true (ar f) 8 d)
-    go false false e d q = no-path q
-
-unary-passed : (ar : ℕ → ℕ) (above s : ℕ) → unary-test ar above s ≡ none → (ar s ≡ 1) × (above ≢ s)
-unfolding unary-test
-unary-passed ar above s p = go (eqb (ar s) 1) (eqb s above) refl refl p
-  where
-    go : (b c : Bool) → eqb (ar s) 1 ≡ b → eqb s above ≡ c → cond {A = Option ℕ} b (cond c (some 5) none) (some 4) ≡ none
-        → (ar s ≡ 1) × (above ≢ s)
-    go true true e d q = no-path q
-    go true false e d q = (eqb-true (ar s) 1 e, λ z. eqb-false s above d (sym z))
-    go false c e d q = no-path q
-
-nonzero-forth : (a b : ℕ) → cond (eqb a 0) 1 0 ≤ b → ex a b ≢ ex 0 0
-nonzero-forth zero b h p = let e : b ≡ 0 = ap (λ (x : Exp). x .1) p in omega arith
-nonzero-forth (suc a) b h p = let e : suc a ≡ 0 = ap (λ (x : Exp). x .0) p in omega arith
-
-nonzero-back : (a b : ℕ) → ex a b ≢ ex 0 0 → cond (eqb a 0) 1 0 ≤ b
-nonzero-back zero zero h = absurd (h refl)
-nonzero-back zero (suc b) h = omega arith
-nonzero-back (suc a) b h = rw (eqb·suc-zero a) (omega arith)
+nonzero-back : (a b : ℕ) → ex a b ≢ ex 0 0 → ¬ ((a ≡ 0) × (b ≡ 0))
+nonzero-back a b h p = h (λ i. ex (p .0 i) (p .1 i))
 
 pub exponent-exactly : (end : ℕ) → end ≤ 4096
     → Exactly (an-exponent end) (λ e. (e .0 < end) × (e .1 < 4096) × (e ≢ ex 0 0)) (λ e. (12, e .0) ∷ (12, e .1) ∷ [])
-unfolding an-exponent
+unfolding an-exponent InRange Unnormal Spent
 exponent-exactly end h =
     both
-    (field-exactly 12 0 end 4 (omega arith))
-    (λ a k. field-exactly 12 (cond (eqb a 0) 1 0) 4096 5 (omega arith))
+    (from-to-exactly kind.power-a 0 end (omega arith))
+    (λ a k. field-exactly kind.power-b (beside a))
     (λ a b. (a, b))
-    (λ a b k l. ((k .1, l .1, nonzero-forth a b (l .0)), refl))
-    (λ e k. (e .0, e .1, (omega arith, k .0), (nonzero-back (e .0) (e .1) (k .2), k .1), refl))
+    (λ a b k l. ((k .1, l .0, nonzero-forth a b (passes-exactly (beside a) b .0 (l .1) .2)), refl))
+    (λ e k. (
+      e .0,
+      e .1,
+      (omega arith, k .0),
+      (k .1, passes-exactly (beside (e .0)) (e .1) .1 ((λ z. z), tt, nonzero-back (e .0) (e .1) (k .2))),
+      refl,
+    ))
 
 -- a power's symbol and exponent, below the symbol `above`
 unfoldable pub Raises : List ℕ → ℕ → ℕ → ℕ × Exp → Type 0
@@ -94,30 +73,39 @@ Raises arities end above p =
 
 module _ (arities : List ℕ) (sig : Signature arities) where
   pub symbol-exactly : Exactly (a-symbol (arity-in arities)) (λ f. (arity-in arities f ≢ 1) × (f < length arities)) (λ f. (8, f) ∷ [])
-  unfolding a-symbol symbol-test
+  unfolding a-symbol InRange Unnormal Spent
   symbol-exactly =
       refit
-      (ask-exactly 8 (symbol-test (arity-in arities)))
-      (λ f h. let r = symbol-passed (arity-in arities) f (h .1) in (r .0, known-symbol arities f (r .1)))
-      (λ f h. let c = sig .count in
-      (omega arith, rw (ne-eqb _ _ (h .0), le-leb _ _ (listed-arity arities (sig .small) f (h .1)))))
+      (field-exactly kind.symbol (applied (arity-in arities)))
+      (λ f h. let r = passes-exactly (applied (arity-in arities)) f .0 (h .1) .1 in (r .0, known-symbol arities f (r .1)))
+      (λ f h.
+      let c = sig .count in
+      let l = h .1 in (
+        omega arith,
+        passes-exactly (applied (arity-in arities)) f .1 ((λ z. z), (h .0, listed-arity arities (sig .small) f l), (λ z. z)),
+      ))
 
   pub raise-exactly : (end above : ℕ) → end ≤ 4096
       → Exactly (a-raise (arity-in arities) end above) (Raises arities end above) (λ p. (8, p .0) ∷ (12, p .1 .0) ∷ (12, p .1 .1) ∷ [])
-  unfolding a-raise a-unary Raises unary-test
+  unfolding a-raise a-unary Raises InRange Unnormal Spent
   raise-exactly end above h =
       both
-      (ask-exactly 8 (unary-test (arity-in arities) above))
+      (field-exactly kind.power-symbol (unary (arity-in arities) above))
       (λ s k. exponent-exactly end h)
       (λ s e. (s, e))
       (λ s e k l.
-      let r = unary-passed (arity-in arities) above s (k .1) in
-      let a = r .0 in
-      ((a, known-symbol arities s (omega arith), r .1, l .0, l .1, l .2), refl))
+      let r = passes-exactly (unary (arity-in arities) above) s .0 (k .1) in
+      let a = r .1 in
+      ((a, known-symbol arities s (omega arith), (λ z. r .2 (sym z)), l .0, l .1, l .2), refl))
       (λ p k.
       let c = sig .count in
-      let l = k .1 in
-      (p .0, p .1, (omega arith, rw (eq-eqb _ _ (k .0), ne-eqb _ _ (λ z. k .2 (sym z)))), (k .3, k .4, k .5), refl))
+      let l = k .1 in (
+        p .0,
+        p .1,
+        (omega arith, passes-exactly (unary (arity-in arities) above) (p .0) .1 ((λ z. z), k .0, (λ z. k .2 (sym z)))),
+        (k .3, k .4, k .5),
+        refl,
+      ))
 
 -- ---- nodes
 
@@ -197,17 +185,17 @@ module _ (arities : List ℕ) (sig : Signature arities) (end : ℕ) (low : end �
   unfolding a-variable Node below-tag behind-tag tag size Normal Over Formed Ranged
   variable-exactly above left =
       made
-      (field-exactly 6 0 64 4 (omega arith))
+      (bits-exactly kind.variable)
       (λ x. grown (var x) left)
-      (λ x h. ((refl, record { room = omega arith; normal = tt; free = λ z. z; formed = tt; ranged = h .1 }), refl))
+      (λ x h. ((refl, record { room = omega arith; normal = tt; free = λ z. z; formed = tt; ranged = h }), refl))
       (λ g h. onto (g .term) (g .left) (h .0) (h .1))
     where
       onto : (t : Pattern) (k : ℕ) → tag t ≡ 0 → Grows arities end above (suc left) (grown t k)
-          → (x : ℕ) × ((0 ≤ x) × (x < 64)) × (grown (var x) left ≡ grown t k)
+          → (x : ℕ) × (x < 64) × (grown (var x) left ≡ grown t k)
       onto (var x) k e h =
           let r = h .room in
           let p : left ≡ k = omega arith in
-          (x, (omega arith, h .ranged), ap (grown (var x)) p)
+          (x, h .ranged, ap (grown (var x)) p)
       onto (fun f ts) k e h = absurd (omega arith)
       onto (pow s d t) k e h = absurd (omega arith)
 
@@ -349,42 +337,43 @@ module _ (arities : List ℕ) (sig : Signature arities) (end : ℕ) (low : end �
     node-exactly above left h (suc (suc zero)) k = raised-exactly above left h
     node-exactly above left h (suc (suc (suc n))) k = absurd (omega arith)
 
-    -- a node, its tag from `least` on
+    -- a node, its tag from `least` on, with nodes left
     pub tagged-exactly : (least above left : ℕ) → left ≤ deep
-        → Exactly (bind (field 2 least 3 4) (a-node term (arity-in arities) end above left)) (λ g. Grows arities end above (suc left) g × (least ≤ tag (g .term))) grown-fields
-    unfolding Node below-tag
+        → Exactly (bind (field kind.tag (node least (suc left))) (a-node term (arity-in arities) end above left)) (λ g. Grows arities end above (suc left) g × (least ≤ tag (g .term))) grown-fields
+    unfolding Node below-tag InRange Unnormal Spent
     tagged-exactly least above left h =
         after
-        (field-exactly 2 least 3 4 (omega arith))
+        (refit
+        (field-exactly kind.tag (node least (suc left)))
+        (λ n k. passes-exactly (node least (suc left)) n .0 (k .1) .1)
+        (λ n k. let l = k .1 in (omega arith, passes-exactly (node least (suc left)) n .1 ((λ z. omega arith), k, (λ z. z)))))
         (λ n k. node-exactly above left h n (k .1))
         (λ n g k m. let l = k .0 in let e = m .0 in ((m .1, omega arith), (cc (e, tag-before (g .term)))))
         (λ g t. (tag (g .term), (t .1, tag-below (g .term)), (refl, t .0)))
 
   -- no node is left
-  none-left : (least above left : ℕ) → left ≡ 0 → Exactly (stop 6) (λ g. Grows arities end above left g × (least ≤ tag (g .term))) grown-fields
-  unfolding Spells
-  none-left least above left h = record {
-    forth = λ g fs s. absurd s;
+  none-left : (next : ℕ → Grammar Grown) (least above left : ℕ) → left ≡ 0
+      → Exactly (bind (field kind.tag (node least left)) next) (λ g. Grows arities end above left g × (least ≤ tag (g .term))) grown-fields
+  unfolding Spells bind field Spent
+  none-left next least above left h = record {
+    forth = λ g fs s. absurd (never g fs s);
     back = λ g t. let r = t .0 .room in absurd (omega (arith, size-positive (g .term)));
   }
-
-  -- the grammar of terms where nodes are left
-  node-next : (deep : ℕ) (ar : ℕ → ℕ) (least above left : ℕ)
-      → bind (field 2 least 3 4) (a-node (λ s k. a-term deep ar end 0 s k) ar end above left) ≡ a-term (suc deep) ar end least above (suc left)
-  unfolding a-term
-  node-next deep ar least above left =
-      let e : suc left - 1 ≡ left = omega arith in
-      rw (eqb·suc-zero left, e)
+    where
+      never : (g : Grown) (fs : Fields) → Spells (bind (field kind.tag (node least left)) next) g fs → ⊥
+      never g [] s = s
+      never g (f ∷ fs) s = passes-exactly (node least left) (f .1) .0 (s .2) .0 h
 
   -- a term in which `left` nodes are allowed, its tag from `least` on
   pub term-exactly : (deep least above left : ℕ) → left ≤ deep
       → Exactly (a-term deep (arity-in arities) end least above left) (λ g. Grows arities end above left g × (least ≤ tag (g .term))) grown-fields
   unfolding a-term
-  term-exactly zero least above left h = none-left least above left (omega arith)
-  term-exactly (suc deep) least above zero h = none-left least above zero refl
+  term-exactly zero least above zero h = none-left _ least above zero refl
+  term-exactly zero least above (suc left) h = absurd (omega arith)
+  term-exactly (suc deep) least above zero h = none-left _ least above zero refl
   term-exactly (suc deep) least above (suc left) h =
-      same
-      (node-next deep (arity-in arities) least above left)
+      let e : suc left - 1 ≡ left = omega arith in
+      rw e
       (tagged-exactly
       (λ s k. a-term deep (arity-in arities) end 0 s k)
       deep

@@ -14,14 +14,12 @@ use Rattle.patterns.specs.Certificate.{Certificate}
 use Rattle.fields.specs.Source.{from}
 use Rattle.fields.specs.Grammar.{Grammar}
 use Rattle.fields.specs.Spells.{Spells}
-use Rattle.fields.proofs.Spelled.{spells-sized}
-use Rattle.fields.proofs.Widths.{Widths, widths-narrow, widths-few}
+use Rattle.fields.proofs.Spelled.{spells-sized, spells-narrow, spells-few}
 use Rattle.fields.proofs.Found.{trace-spells, bytes-found}
 use Rattle.books.specs.Counts.{start}
 use Rattle.grammar.specs.Books.{RuleBook, a-book}
 use Rattle.grammar.specs.Limits.{BookFits, CertificateFits}
 use Rattle.grammar.specs.Listing.{book-fields, certificate-fields}
-use Rattle.grammar.proofs.AllWidths.{book-widths, certificate-widths}
 use Rattle.grammar.proofs.BookFields.{book-exactly}
 use Rattle.grammar.proofs.CertificateFields.{certificate-exactly}
 use Rattle.layout.specs.Files.{Opened, good, open-bytes, certificate-of, open-book, open-certificate}
@@ -36,13 +34,12 @@ opened-spells w p s {a} e =
     subst (Spells p a) (x .fields) (trace-spells s [] p (start false) (x .found))
 
 -- and fields that are spelled make a good file
-spelled-opens : {A : Type 0} (w : ℕ) (p : Grammar A) (a : A) (fs : List (ℕ × ℕ)) → Widths p → Spells p a fs
-    → length (packed fs) ≤ 32768 → open-bytes w p (packed fs) ≡ good a fs
-spelled-opens w p a fs h s small =
+spelled-opens : {A : Type 0} (w : ℕ) (p : Grammar A) (a : A) (fs : List (ℕ × ℕ)) → Spells p a fs → length (packed fs) ≤ 32768 → open-bytes w p (packed fs) ≡ good a fs
+spelled-opens w p a fs s small =
     let k = length-packed fs in
-    let f = widths-few p a fs h s in
+    let f = spells-few p a fs s in
     packed-opens w w p
-    (bytes-found (packed fs) [] p (start false) a fs refl s (widths-narrow p a fs h s)
+    (bytes-found (packed fs) [] p (start false) a fs refl s (spells-narrow p a fs s)
     (subst (λ t. Reads t 0 fs) (append-nil (packed fs)) (packed-reads fs [] (spells-sized p a fs s))) (omega arith) (omega arith)
     (omega arith))
 
@@ -58,7 +55,7 @@ pub book-has-a-file : (b : RuleBook) → BookFits b → length (packed (book-fie
     → open-book (packed (book-fields b)) ≡ good b (book-fields b)
 unfolding open-book
 book-has-a-file b h small =
-    spelled-opens book-place a-book b (book-fields b) book-widths (book-exactly b (book-fields b) .1 (h, refl)) (omega arith)
+    spelled-opens book-place a-book b (book-fields b) (book-exactly b (book-fields b) .1 (h, refl)) (omega arith)
 
 -- No two files have one tree.
 pub one-book-file : (s t : List ℕ) → Bytes s → Bytes t → (b : RuleBook) (fs gs : List (ℕ × ℕ))
@@ -84,7 +81,7 @@ module _ (b : RuleBook) (fits : BookFits b) where
       → open-certificate b (packed (certificate-fields K)) ≡ good K (certificate-fields K)
   unfolding open-certificate certificate-of
   certificate-has-a-file K h small =
-      spelled-opens certificate-place _ K (certificate-fields K) (certificate-widths _ _)
+      spelled-opens certificate-place _ K (certificate-fields K)
       (certificate-exactly b fits K (certificate-fields K) .1 (h, refl)) small
 
   pub one-certificate-file : (s t : List ℕ) → Bytes s → Bytes t → (K : Certificate Exp Pair Pace) (fs gs : List (ℕ × ℕ))

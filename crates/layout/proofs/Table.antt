@@ -7,7 +7,8 @@ use Rattle.patterns.proofs.Every.{every-append, every-map}
 use Rattle.patterns.proofs.Table.{table as earlier-table}
 use Rattle.bits.specs.Bits.{bitAt, spelled, bitsAt, readField}
 use Rattle.fields.specs.Source.{packedField, inReach, fieldAt}
-use Rattle.fields.specs.Grammar.{bind, within, field, outcome, trace}
+use Rattle.fields.specs.Kinds.{within}
+use Rattle.fields.specs.Grammar.{bind, field, outcome, trace}
 use Rattle.grammar.specs.Books.{arity-in, arities-of, a-signature, rules-of, a-rule-list, a-book}
 use Rattle.grammar.specs.Certificates.{lines-of, a-closing, a-closed, a-pace, a-certificate-of, a-certificate}
 use Rattle.grammar.specs.Limits.{call-counts}

@@ -12,7 +12,9 @@ use Rattle.fields.specs.declared.Cursor.{Cursor}
 use Rattle.fields.specs.declared.Walk.{Walk}
 use Rattle.fields.specs.declared.Walk.the-variants.{On, No}
 use Rattle.fields.specs.Source.{Source}
-use Rattle.fields.specs.Grammar.{Grammar, done, bind, within, field}
+use Rattle.fields.specs.Kinds.{from-to}
+use Rattle.fields.specs.Kinds.{Kind as kind}
+use Rattle.fields.specs.Grammar.{done, bind, field}
 use Rattle.fields.specs.Run.{state, Ran}
 use Rattle.fields.proofs.Seqs.{found, ran-done}
 use Rattle.fields.proofs.Always.{Always, always-bind, always-then, always-run, field-below}
@@ -43,6 +45,6 @@ pair-small {src} ar least {c} {d} {ws} {bs} {ws₁} {bs₁} h e =
     let y = found h e in
     subst (λ k. k < 64) (y .1)
     (always-run (λ p. p .0 < 64) src (a-pair ar least)
-    (always-bind (λ v. v < 64) (λ p. p .0 < 64) _ (field 6 least 64 4) (field-below 6 least 64 4)
+    (always-bind (λ v. v < 64) (λ p. p .0 < 64) _ (field kind.filled-variable (from-to least 64)) (field-below kind.filled-variable least 64)
     (λ v k. always-then (λ p. p .0 < 64) _ (any-term ar) (λ g. k)))
     (state c ws bs) (y .0) (state d ws₁ bs₁) (y .2))

@@ -3,6 +3,7 @@ use Prim.Native.Nat.{ℕ, zero, suc, _+_, _-_, _<_, _≤_}
 use mathlib.Core.Path.{_≡_, refl, sym, _∙_, ap, subst}
 use mathlib.Core.List.{List}
 use mathlib.Core.Bool.{Bool, true, false, cond}
+use mathlib.Core.Option.{Option·some-ne-none}
 use mathlib.Core.Logic.{_≢_}
 use native.Mathlib.Omega.{arith}
 use borrow.Author.Tests.{eq-eqb, ne-eqb, eqb-false}
@@ -12,30 +13,32 @@ use Rattle.fields.specs.declared.Walk.{Walk}
 use Rattle.fields.specs.declared.Walk.the-variants.{On, No}
 use Rattle.fields.specs.Source.{Source}
 use Rattle.patterns.specs.Term.{cons}
-use Rattle.fields.specs.Grammar.{Grammar, done, stop, bind, field}
+use Rattle.fields.specs.Kinds.{any, node}
+use Rattle.fields.specs.Kinds.{Kind as kind}
+use Rattle.fields.specs.Grammar.{Grammar, done, bind, field}
 use Rattle.fields.specs.Run.{state, Ran}
-use Rattle.fields.proofs.Seqs.{found, ran-stop, ran-done}
+use Rattle.fields.proofs.Seqs.{found, ran-spent, ran-done}
 use Rattle.fields.proofs.Always.{Always, always-bind, always-then, always-run, always-weaken}
 use Rattle.grammar.specs.Terms.{Grown, GrownAll, a-symbol, a-raise, a-variable, an-applied, a-raised, a-node, a-term, args-of}
 use Rattle.terms.specs.Values.{leftOf, leftOfAll}
 
 module _ {src : Source} (deep : ℕ) (ar : ℕ → ℕ) (end least above left : ℕ) {c : Cursor} {ws bs : List ℕ} where
   pub term-none : left ≡ 0 → Ran src (a-term deep ar end least above left) c ws bs leftOf (No 6 c) ws bs
-  unfolding a-term
+  unfolding a-term bind field
   term-none h = go deep
     where
       go : (deep : ℕ) → Ran src (a-term deep ar end least above left) c ws bs leftOf (No 6 c) ws bs
-      go zero = ran-stop 6 c ws bs
-      go (suc deep) = rw (eq-eqb left 0 h) (ran-stop 6 c ws bs)
+      go zero = ran-spent kind.tag (node least 0) _ c ws bs refl
+      go (suc deep) = ran-spent kind.tag (node least left) _ c ws bs (eq-eqb left 0 h)
 
 pub term-some : {src : Source} (deep : ℕ) (ar : ℕ → ℕ) (end least above left : ℕ) {c : Cursor} {ws bs ws₁ bs₁ : List ℕ} {r : Walk}
     → left ≢ 0 → left ≤ deep
     → ((d : ℕ) → left - 1 ≤ d
-    → Ran src (bind (field 2 least 3 4) (a-node (λ s k. a-term d ar end 0 s k) ar end above (left - 1))) c ws bs leftOf r ws₁ bs₁)
+    → Ran src (bind (field kind.tag (node least left)) (a-node (λ s k. a-term d ar end 0 s k) ar end above (left - 1))) c ws bs leftOf r ws₁ bs₁)
     → Ran src (a-term deep ar end least above left) c ws bs leftOf r ws₁ bs₁
 unfolding a-term
 term-some zero ar end least above left n h f = absurd (n (omega arith))
-term-some (suc deep) ar end least above left n h f = rw (ne-eqb left 0 n) (f deep (omega arith))
+term-some (suc deep) ar end least above left n h f = f deep (omega arith)
 
 -- ---- the tags
 
@@ -98,7 +101,7 @@ node-falls term f ar end above left tag = go (eqb tag 0) (eqb tag 1)
     go : (a b : Bool)
         → Always (Below left)
         (cond a (a-variable left) (cond b (an-applied term ar left) (a-raised term ar end above left)))
-    go true b = always-then (Below left) _ (field 6 0 64 4) (λ x. omega arith)
+    go true b = always-then (Below left) _ (field kind.variable any) (λ x. omega arith)
     go false true =
         always-then (Below left) _ (a-symbol ar)
         (λ s. always-bind (BelowAll left) (Below left) _ (args-of (term 256) (ar s) left) (args-fall (term 256) (f 256) (ar s) left)
@@ -108,21 +111,13 @@ node-falls term f ar end above left tag = go (eqb tag 0) (eqb tag 1)
         (λ p. always-bind (Below left) (Below left) _ (term (p .0) left) (f (p .0) left) (λ g h. h))
 
 term-falls : (deep : ℕ) (ar : ℕ → ℕ) (end least above left : ℕ) → Always (Below left) (a-term deep ar end least above left)
-unfolding a-term Always
-term-falls zero ar end least above left = tt
+unfolding a-term a-variable Always bind field
+term-falls zero ar end least above left = λ v t. absurd (Option·some-ne-none 6 t)
 term-falls (suc deep) ar end least above left =
-    at-left (eqb left 0)
-    (λ tag. node-falls (λ s k. a-term deep ar end 0 s k) (λ s k. term-falls deep ar end 0 s k) ar end above (left - 1) tag)
-  where
-    at-left : (b : Bool)
-        → ((tag : ℕ) → Always (Below (left - 1)) (a-node (λ s k. a-term deep ar end 0 s k) ar end above (left - 1) tag))
-        → Always (Below left)
-        (cond b (stop 6) (bind (field 2 least 3 4) (a-node (λ s k. a-term deep ar end 0 s k) ar end above (left - 1))))
-    at-left true f = tt
-    at-left false f =
-        always-then (Below left) _ (field 2 least 3 4)
-        (λ tag. always-weaken (Below (left - 1)) (Below left) (λ g h. omega arith)
-        (a-node (λ s k. a-term deep ar end 0 s k) ar end above (left - 1) tag) (f tag))
+    always-then (Below left) (a-node (λ s k. a-term deep ar end 0 s k) ar end above (left - 1)) (field kind.tag (node least left))
+    (λ n. always-weaken (Below (left - 1)) (Below left) (λ g h. omega arith)
+    (a-node (λ s k. a-term deep ar end 0 s k) ar end above (left - 1) n)
+    (node-falls (λ s k. a-term deep ar end 0 s k) (λ s k. term-falls deep ar end 0 s k) ar end above (left - 1) n))
 
 pub term-left : {src : Source} (deep : ℕ) (ar : ℕ → ℕ) (end least above left : ℕ) {c d : Cursor} {ws bs ws₁ bs₁ : List ℕ}
     {r : Walk} {k : ℕ} → Ran src (a-term deep ar end least above left) c ws bs leftOf r ws₁ bs₁ → r ≡ On k d → k ≤ left

@@ -9,14 +9,22 @@ use borrow.Author.Tests.{eq-eqb, ne-eqb, le-leb, lt-leb, lt-ltb, le-ltb, leb-tru
 use lib.Dec.{ltb, leb, eqb}
 use Rattle.fields.specs.declared.Cursor.{Cursor}
 use Rattle.fields.specs.declared.Field.{Field}
+use Rattle.fields.specs.declared.Field.the-variants.{Got, Bad}
 use Rattle.fields.specs.declared.Walk.{Walk}
-use Rattle.fields.specs.declared.Walk.the-variants.{On}
-use Rattle.fields.specs.Source.{Source, fieldAt}
+use Rattle.fields.specs.declared.Walk.the-variants.{On, No}
+use Rattle.fields.specs.Source.{Source, fieldAt, onward}
 use Rattle.fields.specs.Run.{state, Ran}
 use Rattle.fields.proofs.Seqs.{found, one-tested}
 use Rattle.fields.specs.Grammar.{onField}
 use Rattle.terms.specs.Arity.{numberAt, arityAt}
-use Rattle.grammar.specs.Terms.{symbol-test, a-symbol, unary-test}
+use Rattle.fields.specs.Kinds.{applied, unary, test, InRange}
+use Rattle.fields.specs.Kinds.{Kind as kind}
+use Rattle.fields.specs.Grammar.{field}
+use Rattle.fields.proofs.Ranges.{passes-exactly}
+use Rattle.fields.proofs.Runs.{field-bad, field-refused, field-in}
+use Rattle.bits.specs.Put.{putField}
+use lib.ListN.{set}
+use Rattle.grammar.specs.Terms.{a-symbol, a-unary}
 
 pub number-is : (s l : List ℕ) (w : ℕ) (c : Cursor) (other : ℕ) {f : Field} → f ≡ fieldAt s l w c
     → numberAt s l w c other ≡ onField f (λ v. v) (λ m. other)
@@ -33,46 +41,54 @@ module _ (s l : List ℕ) (listed : Bool) (f : ℕ) {n : ℕ} (count : n ≡ num
   unfolding arityAt
   some-arity h = rw (← count, lt-ltb f n h)
 
--- `n` is the arity that the code found
-module _ (ar : ℕ → ℕ) {n : ℕ} (f : ℕ) (found : n ≡ ar f) where
-  pub symbol-unary : n ≡ 1 → symbol-test ar f ≡ some 4
-  unfolding symbol-test
-  symbol-unary h = rw (← found, eq-eqb n 1 h)
+-- what the code finds at a symbol: `x` stands at the cursor, and `n` is the arity of the symbol v there
+module _ (src : Source) (ar : ℕ → ℕ) {c : Cursor} {ws bs : List ℕ} {x : Field} (g : x ≡ src 8 c) where
+  pub symbol-bad : (m : ℕ) → x ≡ Bad m → Ran src (a-symbol ar) c ws bs ar (No m c) ws bs
+  unfolding a-symbol
+  symbol-bad m e = field-bad kind.symbol (applied ar) m g e
 
-  pub symbol-missing : n ≢ 1 → 8 < n → symbol-test ar f ≡ some 4
-  unfolding symbol-test
-  symbol-missing h k = rw (← found, ne-eqb n 1 h, lt-leb n 8 k)
+  pub unary-bad : (above m : ℕ) → x ≡ Bad m → Ran src (a-unary ar above) c ws bs (λ v. v) (No m c) ws bs
+  unfolding a-unary
+  unary-bad above m e = field-bad kind.power-symbol (unary ar above) m g e
 
-  pub symbol-ok : n ≢ 1 → n ≤ 8 → symbol-test ar f ≡ none
-  unfolding symbol-test
-  symbol-ok h k = rw (← found, ne-eqb n 1 h, le-leb n 8 k)
+  module _ (v : ℕ) {n : ℕ} (e : x ≡ Got v) (found : n ≡ ar v) where
+    pub symbol-unary : n ≡ 1 → Ran src (a-symbol ar) c ws bs ar (No 4 c) ws bs
+    unfolding a-symbol
+    symbol-unary h = field-refused kind.symbol (applied ar) v 4 g e (rw (← found, eq-eqb n 1 h))
 
-  pub unary-not : (above : ℕ) → n ≢ 1 → unary-test ar above f ≡ some 4
-  unfolding unary-test
-  unary-not above h = rw (← found, ne-eqb n 1 h)
+    pub symbol-missing : n ≢ 1 → 8 < n → Ran src (a-symbol ar) c ws bs ar (No 4 c) ws bs
+    unfolding a-symbol
+    symbol-missing h k = field-refused kind.symbol (applied ar) v 4 g e (rw (← found, ne-eqb n 1 h, lt-leb n 8 k))
 
-  pub unary-like : (above : ℕ) → n ≡ 1 → f ≡ above → unary-test ar above f ≡ some 5
-  unfolding unary-test
-  unary-like above h k = rw (← found, eq-eqb n 1 h, eq-eqb f above k)
+    pub symbol-in : {d : Cursor} {ws₁ bs₁ : List ℕ} → n ≢ 1 → n ≤ 8 → d ≡ onward 8 c → ws₁ ≡ set ws (c .n) v → bs₁ ≡ putField bs 8 v (c .bit)
+        → Ran src (a-symbol ar) c ws bs ar (On n d) ws₁ bs₁
+    unfolding a-symbol
+    symbol-in h k p q s = field-in kind.symbol (applied ar) v g e (rw (← found, ne-eqb n 1 h, le-leb n 8 k)) found p q s
 
-  pub unary-ok : (above : ℕ) → n ≡ 1 → f ≢ above → unary-test ar above f ≡ none
-  unfolding unary-test
-  unary-ok above h k = rw (← found, eq-eqb n 1 h, ne-eqb f above k)
+    module _ (above : ℕ) where
+      pub unary-not : n ≢ 1 → Ran src (a-unary ar above) c ws bs (λ v. v) (No 4 c) ws bs
+      unfolding a-unary
+      unary-not h = field-refused kind.power-symbol (unary ar above) v 4 g e (rw (← found, ne-eqb n 1 h))
+
+      pub unary-like : n ≡ 1 → v ≡ above → Ran src (a-unary ar above) c ws bs (λ v. v) (No 5 c) ws bs
+      unfolding a-unary
+      unary-like h k = field-refused kind.power-symbol (unary ar above) v 5 g e (rw (← found, eq-eqb n 1 h, eq-eqb v above k))
+
+      pub unary-in : {d : Cursor} {ws₁ bs₁ : List ℕ} → n ≡ 1 → v ≢ above → d ≡ onward 8 c → ws₁ ≡ set ws (c .n) v → bs₁ ≡ putField bs 8 v (c .bit)
+          → Ran src (a-unary ar above) c ws bs (λ v. v) (On v d) ws₁ bs₁
+      unfolding a-unary
+      unary-in h k p q s =
+          field-in kind.power-symbol (unary ar above) v g e (rw (← found, eq-eqb n 1 h, ne-eqb v above k)) refl p q s
 
 -- a symbol that was taken has at most 8 arguments
-pub symbol-small : (ar : ℕ → ℕ) (f : ℕ) → symbol-test ar f ≡ none → ar f ≤ 8
-unfolding symbol-test
-symbol-small ar f = go (eqb (ar f) 1) (leb (ar f) 8) refl
-  where
-    go : (a b : Bool) → leb (ar f) 8 ≡ b → cond {A = Option ℕ} a (some 4) (cond b none (some 4)) ≡ none → ar f ≤ 8
-    go true b e p = absurd (Option·some-ne-none 4 p)
-    go false true e p = leb-true (ar f) 8 e
-    go false false e p = absurd (Option·some-ne-none 4 p)
+pub symbol-small : (ar : ℕ → ℕ) (f : ℕ) → test (applied ar) f ≡ none → ar f ≤ 8
+unfolding InRange
+symbol-small ar f e = passes-exactly (applied ar) f .0 e .1 .1
 
 pub symbol-few : {src : Source} (ar : ℕ → ℕ) {c d : Cursor} {ws bs ws₁ bs₁ : List ℕ} {r : Walk} {n : ℕ}
     → Ran src (a-symbol ar) c ws bs ar r ws₁ bs₁ → r ≡ On n d → n ≤ 8
-unfolding a-symbol
+unfolding a-symbol field
 symbol-few {src} ar {c} {d} {ws} {bs} {ws₁} {bs₁} h e =
     let x = found h e in
     subst (λ k. k ≤ 8) (x .1)
-    (symbol-small ar (x .0) (one-tested src 8 (symbol-test ar) (state c ws bs) (x .0) (state d ws₁ bs₁) (x .2)))
+    (symbol-small ar (x .0) (one-tested src kind.symbol (applied ar) (state c ws bs) (x .0) (state d ws₁ bs₁) (x .2)))

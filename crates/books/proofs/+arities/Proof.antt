@@ -3,6 +3,8 @@ use mathlib.Core.Path.{refl}
 use Rattle.fields.proofs.Seqs.{seq-no, seq-on, seq-last}
 use Rattle.fields.proofs.Many.{many-none, many-some}
 use Rattle.books.proofs.Counting.{arities-many}
+use Rattle.fields.specs.Kinds.{Kind as kind}
+use Rattle.fields.proofs.Ranges.{from-to-bounded}
 use borrow.Author.Needs.{needs}
 use Prim.Native.Nat.{ℕ, _<_}
 use borrow.Fn.Kinds.{In}
@@ -93,7 +95,7 @@ arities-returns-2 : (t : ℕ) → arities-lts.Need-returns-2 (
   arities-below t,
   arities.Post,
 ) (arities-at t) arities.Post
-arities-returns-2 t c = many-some arities-many _ (c .before .before .before .before .before .before .before .before .before .before .if1 .left) (seq-no (c .before .before .before .before .before .before .before .take .ensures) _ (c .before .m .given .1))
+arities-returns-2 t c = many-some arities-many _ (c .before .before .before .before .before .before .before .before .before .before .if1 .left) (seq-no (c .before .before .before .before .before .before .before .take .ensures .ran _ _ (from-to-bounded kind.arity _ _)) _ (c .before .m .given .1))
 
 arities-same-length-3 : (t : ℕ) → arities-lts.Need-same-length-3 (
   take-reads.Asked,
@@ -117,7 +119,7 @@ arities-returns-3 : (t : ℕ) → arities-lts.Need-returns-3 (
   arities-below t,
   arities.Post,
 ) (arities-at t) arities.Post
-arities-returns-3 t c = many-some arities-many _ (c .before .before .before .before .before .before .before .before .before .before .before .before .before .before .before .before .before .if1 .left) (seq-on (c .before .before .before .before .before .before .before .before .before .before .before .before .before .before .take .ensures) _ (c .before .before .before .before .before .before .before .before .d .given .1) (λ a q. seq-last _ (λ l. refl) (c .before .before .before .before .arities .ensures)))
+arities-returns-3 t c = many-some arities-many _ (c .before .before .before .before .before .before .before .before .before .before .before .before .before .before .before .before .before .if1 .left) (seq-on (c .before .before .before .before .before .before .before .before .before .before .before .before .before .before .take .ensures .ran _ _ (from-to-bounded kind.arity _ _)) _ (c .before .before .before .before .before .before .before .before .d .given .1) (λ a q. seq-last _ (λ l. refl) (c .before .before .before .before .arities .ensures)))
 
 pub +arities-spec : {M : Type 1} → statement M
 +arities-spec = close μ-arities λ t. arities-lts.spec (

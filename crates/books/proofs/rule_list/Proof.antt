@@ -3,6 +3,9 @@ use Rattle.fields.proofs.Seqs.{seq-no, seq-at}
 use Rattle.fields.proofs.Always.{taken-below}
 use Rattle.grammar.specs.Books.{a-rule-list}
 use Rattle.books.proofs.Counting.{rules-all, rules-refused, list-no, list-on}
+use native.Mathlib.Omega.{arith}
+use Rattle.fields.specs.Kinds.{Kind as kind}
+use Rattle.fields.proofs.Ranges.{any-bounded, from-to-bounded}
 use borrow.Author.Needs.{needs}
 use Rattle.books.proofs.rule_list.Statement.{statement}
 use Rattle.books.proofs.rule_list.Tie as tie
@@ -17,7 +20,7 @@ enum-known-n : tie.Need-enum-known-n
 enum-known-n c = search needs
 
 rules-requires : tie.Need-rules-requires
-rules-requires c κs = let h = taken-below _ _ _ _ (c .before .before .before .before .before .before .before .before .before .before .take .ensures) (c .before .before .before .before .n .given .1) in search needs
+rules-requires c κs = let h = taken-below kind.rule-count 0 256 (c .before .before .before .before .before .before .before .before .before .before .take .ensures .ran _ _ (from-to-bounded kind.rule-count 0 256)) (c .before .before .before .before .n .given .1) in search needs
 
 enum-known-m-2 : tie.Need-enum-known-m-2
 enum-known-m-2 c = search needs
@@ -33,7 +36,7 @@ same-length-2 c = search needs
 
 returns : tie.Need-returns
 unfolding a-rule-list
-returns c = (seq-no (c .before .before .before .before .before .before .before .take .ensures) _ (c .before .m .given .1), list-no _ _ _ (c .before .before .before .before .before .before .before .take .ensures) (c .before .m .given .1))
+returns c = (seq-no (c .before .before .before .before .before .before .before .take .ensures .ran _ _ (any-bounded kind.rule-count (omega arith))) _ (c .before .m .given .1), list-no _ _ _ (c .before .before .before .before .before .before .before .take .ensures .ran _ _ (any-bounded kind.rule-count (omega arith))) (c .before .m .given .1))
 
 same-length-3 : tie.Need-same-length-3
 same-length-3 c = search needs
@@ -46,7 +49,7 @@ same-length-5 c = search needs
 
 returns-2 : tie.Need-returns-2
 unfolding a-rule-list
-returns-2 c = (seq-at _ (c .before .before .before .before .before .before .before .before .before .before .before .before .before .before .before .before .before .before .before .before .take .ensures) (c .before .before .before .before .before .before .before .before .before .before .before .before .before .before .n .given .1) (rules-refused _ _ (c .before .before .before .before .before .before .before .before .before .rules .ensures .0) (c .before .m2 .given .1)), list-on _ _ _ (c .before .before .before .before .before .before .before .before .before .before .before .before .before .before .before .before .before .before .before .before .take .ensures) (c .before .before .before .before .before .before .before .before .before .before .before .before .before .before .n .given .1) (c .before .before .before .before .before .before .before .before .before .rules .ensures .1))
+returns-2 c = (seq-at _ (c .before .before .before .before .before .before .before .before .before .before .before .before .before .before .before .before .before .before .before .before .take .ensures .ran _ _ (any-bounded kind.rule-count (omega arith))) (c .before .before .before .before .before .before .before .before .before .before .before .before .before .before .n .given .1) (rules-refused _ _ (c .before .before .before .before .before .before .before .before .before .rules .ensures .0) (c .before .m2 .given .1)), list-on _ _ _ (c .before .before .before .before .before .before .before .before .before .before .before .before .before .before .before .before .before .before .before .before .take .ensures .ran _ _ (any-bounded kind.rule-count (omega arith))) (c .before .before .before .before .before .before .before .before .before .before .before .before .before .before .n .given .1) (c .before .before .before .before .before .before .before .before .before .rules .ensures .1))
 
 same-length-6 : tie.Need-same-length-6
 same-length-6 c = search needs
@@ -59,7 +62,7 @@ same-length-8 c = search needs
 
 returns-3 : tie.Need-returns-3
 unfolding a-rule-list
-returns-3 c = (seq-at _ (c .before .before .before .before .before .before .before .before .before .before .before .before .before .before .before .before .before .before .before .before .take .ensures) (c .before .before .before .before .before .before .before .before .before .before .before .before .before .before .n .given .1) (rules-all _ _ (c .before .before .before .before .before .before .before .before .before .rules .ensures .0) (c .before .e .given .1)), list-on _ _ _ (c .before .before .before .before .before .before .before .before .before .before .before .before .before .before .before .before .before .before .before .before .take .ensures) (c .before .before .before .before .before .before .before .before .before .before .before .before .before .before .n .given .1) (c .before .before .before .before .before .before .before .before .before .rules .ensures .1))
+returns-3 c = (seq-at _ (c .before .before .before .before .before .before .before .before .before .before .before .before .before .before .before .before .before .before .before .before .take .ensures .ran _ _ (any-bounded kind.rule-count (omega arith))) (c .before .before .before .before .before .before .before .before .before .before .before .before .before .before .n .given .1) (rules-all _ _ (c .before .before .before .before .before .before .before .before .before .rules .ensures .0) (c .before .e .given .1)), list-on _ _ _ (c .before .before .before .before .before .before .before .before .before .before .before .before .before .before .before .before .before .before .before .before .take .ensures .ran _ _ (any-bounded kind.rule-count (omega arith))) (c .before .before .before .before .before .before .before .before .before .before .before .before .before .before .n .given .1) (c .before .before .before .before .before .before .before .before .before .rules .ensures .1))
 
 pub rule-list-spec : {M : Type 1} → statement M
 rule-list-spec =

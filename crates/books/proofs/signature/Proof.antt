@@ -1,6 +1,9 @@
 -- `books::signature` meets its contract.
 use Rattle.fields.proofs.Seqs.{seq-no, seq-at}
 use Rattle.grammar.specs.Books.{a-signature}
+use native.Mathlib.Omega.{arith}
+use Rattle.fields.specs.Kinds.{Kind as kind}
+use Rattle.fields.proofs.Ranges.{any-bounded}
 use borrow.Author.Needs.{needs}
 use Rattle.books.proofs.signature.Statement.{statement}
 use Rattle.books.proofs.signature.Tie as tie
@@ -25,7 +28,7 @@ same-length-2 c = search needs
 
 returns : tie.Need-returns
 unfolding a-signature
-returns c = seq-no (c .before .before .before .before .before .before .before .take .ensures) _ (c .before .m .given .1)
+returns c = seq-no (c .before .before .before .before .before .before .before .take .ensures .ran _ _ (any-bounded kind.symbol-count (omega arith))) _ (c .before .m .given .1)
 
 same-length-3 : tie.Need-same-length-3
 same-length-3 c = search needs
@@ -35,7 +38,7 @@ same-length-4 c = search needs
 
 returns-2 : tie.Need-returns-2
 unfolding a-signature
-returns-2 c = seq-at _ (c .before .before .before .before .before .before .before .before .before .before .before .before .before .before .take .ensures) (c .before .before .before .before .before .before .before .before .n .given .1) (c .before .before .before .before .arities .ensures)
+returns-2 c = seq-at _ (c .before .before .before .before .before .before .before .before .before .before .before .before .before .before .take .ensures .ran _ _ (any-bounded kind.symbol-count (omega arith))) (c .before .before .before .before .before .before .before .before .n .given .1) (c .before .before .before .before .arities .ensures)
 
 pub signature-spec : {M : Type 1} → statement M
 signature-spec =

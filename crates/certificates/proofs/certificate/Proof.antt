@@ -2,6 +2,9 @@
 use Rattle.fields.proofs.Seqs.{seq-no, seq-at}
 use Rattle.grammar.specs.Certificates.{a-certificate}
 use Rattle.fields.proofs.Always.{taken-below}
+use native.Mathlib.Omega.{arith}
+use Rattle.fields.specs.Kinds.{Kind as kind}
+use Rattle.fields.proofs.Ranges.{any-bounded, from-to-bounded}
 use borrow.Author.Needs.{needs}
 use Rattle.certificates.proofs.certificate.Statement.{statement}
 use Rattle.certificates.proofs.certificate.Tie as tie
@@ -16,7 +19,7 @@ enum-known-n : tie.Need-enum-known-n
 enum-known-n c = search needs
 
 certificate-of-requires : tie.Need-certificate-of-requires
-certificate-of-requires c κs = let h = taken-below _ _ _ _ (c .before .before .before .before .before .before .before .before .before .take .ensures) (c .before .before .before .n .given .1) in search needs
+certificate-of-requires c κs = let h = taken-below kind.line-count 0 256 (c .before .before .before .before .before .before .before .before .before .take .ensures .ran _ _ (from-to-bounded kind.line-count 0 256)) (c .before .before .before .n .given .1) in search needs
 
 same-length : tie.Need-same-length
 same-length c = search needs
@@ -26,7 +29,7 @@ same-length-2 c = search needs
 
 returns : tie.Need-returns
 unfolding a-certificate
-returns c = seq-no (c .before .before .before .before .before .before .before .take .ensures) _ (c .before .m .given .1)
+returns c = seq-no (c .before .before .before .before .before .before .before .take .ensures .ran _ _ (any-bounded kind.line-count (omega arith))) _ (c .before .m .given .1)
 
 same-length-3 : tie.Need-same-length-3
 same-length-3 c = search needs
@@ -36,7 +39,7 @@ same-length-4 c = search needs
 
 returns-2 : tie.Need-returns-2
 unfolding a-certificate
-returns-2 c = seq-at _ (c .before .before .before .before .before .before .before .before .before .before .before .before .before .before .take .ensures) (c .before .before .before .before .before .before .before .before .n .given .1) (c .before .before .before .before .certificate-of .ensures)
+returns-2 c = seq-at _ (c .before .before .before .before .before .before .before .before .before .before .before .before .before .before .take .ensures .ran _ _ (any-bounded kind.line-count (omega arith))) (c .before .before .before .before .before .before .before .before .n .given .1) (c .before .before .before .before .certificate-of .ensures)
 
 pub certificate-spec : {M : Type 1} → statement M
 certificate-spec =

@@ -3,6 +3,9 @@ use mathlib.Core.Path.{refl}
 use Rattle.fields.proofs.Seqs.{seq-no, seq-at, seq-last}
 use Rattle.grammar.specs.Certificates.{a-pace}
 use Rattle.fields.proofs.Always.{taken-below}
+use native.Mathlib.Omega.{arith}
+use Rattle.fields.specs.Kinds.{Kind as kind}
+use Rattle.fields.proofs.Ranges.{any-bounded, from-to-bounded}
 use borrow.Author.Needs.{needs}
 use Rattle.certificates.proofs.pace.Statement.{statement}
 use Rattle.certificates.proofs.pace.Tie as tie
@@ -17,10 +20,10 @@ enum-known-k : tie.Need-enum-known-k
 enum-known-k c = search needs
 
 cast-take : tie.Need-cast-take
-cast-take c = let h = taken-below _ _ _ _ (c .before .before .before .before .before .before .before .take .ensures) (c .before .k .given .1) in search needs
+cast-take c = let h = taken-below kind.step-k 0 4096 (c .before .before .before .before .before .before .before .take .ensures .ran _ _ (from-to-bounded kind.step-k 0 4096)) (c .before .k .given .1) in search needs
 
 sub-take : tie.Need-sub-take
-sub-take c = let h = taken-below _ _ _ _ (c .before .before .before .before .before .before .before .take .ensures) (c .before .k .given .1) in search needs
+sub-take c = let h = taken-below kind.step-k 0 4096 (c .before .before .before .before .before .before .before .take .ensures .ran _ _ (from-to-bounded kind.step-k 0 4096)) (c .before .k .given .1) in search needs
 
 take-requires-2 : tie.Need-take-requires-2
 take-requires-2 c κs = search needs
@@ -33,7 +36,7 @@ same-length-2 c = search needs
 
 returns : tie.Need-returns
 unfolding a-pace
-returns c = seq-no (c .before .before .before .before .before .before .before .take .ensures) _ (c .before .m .given .1)
+returns c = seq-no (c .before .before .before .before .before .before .before .take .ensures .ran _ _ (any-bounded kind.step-k (omega arith))) _ (c .before .m .given .1)
 
 same-length-3 : tie.Need-same-length-3
 same-length-3 c = search needs
@@ -43,7 +46,7 @@ same-length-4 c = search needs
 
 returns-2 : tie.Need-returns-2
 unfolding a-pace
-returns-2 c = seq-at _ (c .before .before .before .before .before .before .before .before .before .before .before .before .before .before .take .ensures) (c .before .before .before .before .before .before .before .before .k .given .1) (seq-last _ (λ α. refl) (c .before .before .before .before .take2 .ensures))
+returns-2 c = seq-at _ (c .before .before .before .before .before .before .before .before .before .before .before .before .before .before .take .ensures .ran _ _ (any-bounded kind.step-k (omega arith))) (c .before .before .before .before .before .before .before .before .k .given .1) (seq-last _ (λ α. refl) (c .before .before .before .before .take2 .ensures .ran _ _ (from-to-bounded kind.start-α _ _)))
 
 pub pace-spec : {M : Type 1} → statement M
 pace-spec =

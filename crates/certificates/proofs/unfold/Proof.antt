@@ -2,6 +2,8 @@
 use mathlib.Core.Path.{refl}
 use Rattle.fields.proofs.Seqs.{seq-no, seq-at, seq-last}
 use Rattle.grammar.specs.Certificates.{an-unfold}
+use Rattle.fields.specs.Kinds.{Kind as kind}
+use Rattle.fields.proofs.Ranges.{from-to-bounded}
 use borrow.Author.Needs.{needs}
 use Rattle.certificates.proofs.unfold.Statement.{statement}
 use Rattle.certificates.proofs.unfold.Tie as tie
@@ -32,7 +34,7 @@ same-length-2 c = search needs
 
 returns : tie.Need-returns
 unfolding an-unfold
-returns c = seq-no (c .before .before .before .before .before .before .before .take .ensures) _ (c .before .m .given .1)
+returns c = seq-no (c .before .before .before .before .before .before .before .take .ensures .ran _ _ (from-to-bounded kind.rule _ _)) _ (c .before .m .given .1)
 
 same-length-3 : tie.Need-same-length-3
 same-length-3 c = search needs
@@ -42,7 +44,7 @@ same-length-4 c = search needs
 
 returns-2 : tie.Need-returns-2
 unfolding an-unfold
-returns-2 c = seq-at _ (c .before .before .before .before .before .before .before .before .before .before .before .before .before .before .before .take .ensures) (c .before .before .before .before .before .before .before .before .before .k .given .1) (seq-last _ (λ q. refl) (rw (← (c .before .before .before .before .before .before .before .calls .ensures .0)) (c .before .before .before .before .stop-at .ensures)))
+returns-2 c = seq-at _ (c .before .before .before .before .before .before .before .before .before .before .before .before .before .before .before .take .ensures .ran _ _ (from-to-bounded kind.rule _ _)) (c .before .before .before .before .before .before .before .before .before .k .given .1) (seq-last _ (λ q. refl) (rw (← (c .before .before .before .before .before .before .before .calls .ensures .0)) (c .before .before .before .before .stop-at .ensures)))
 
 pub unfold-spec : {M : Type 1} → statement M
 unfold-spec =

@@ -1,6 +1,8 @@
 -- `terms::applied` and `terms::args` and `terms::raised` and `terms::term` meet their contracts.
 use mathlib.Core.Path.{refl}
 use native.Mathlib.Omega.{arith}
+use Rattle.fields.specs.Kinds.{Kind as kind}
+use Rattle.fields.proofs.Ranges.{node-bounded}
 use Rattle.fields.proofs.Seqs.{seq-no, seq-on, seq-at, seq-last}
 use Rattle.grammar.specs.Terms.{an-applied, a-raised}
 use Rattle.terms.proofs.Symbols.{symbol-few}
@@ -475,7 +477,7 @@ term-returns-2 : (t : ℕ) → term-lts.Need-returns-2 (
   raised-below t,
   raised.Post,
 ) (term-at t) term.Post
-term-returns-2 t c = λ deep h. term-some _ _ _ _ _ _ (c .before .before .before .before .before .before .before .before .before .before .if1 .left) h (λ d k. seq-no (c .before .before .before .before .before .before .before .take .ensures) _ (c .before .m .given .1))
+term-returns-2 t c = λ deep h. term-some _ _ _ _ _ _ (c .before .before .before .before .before .before .before .before .before .before .if1 .left) h (λ d k. seq-no (c .before .before .before .before .before .before .before .take .ensures .ran _ _ (node-bounded kind.tag _ (c .before .before .before .before .before .before .before .before .before .before .if1 .left))) _ (c .before .m .given .1))
 
 term-same-length-3 : (t : ℕ) → term-lts.Need-same-length-3 (
   take-reads.Asked,
@@ -511,7 +513,7 @@ term-returns-3 : (t : ℕ) → term-lts.Need-returns-3 (
   raised-below t,
   raised.Post,
 ) (term-at t) term.Post
-term-returns-3 t c = λ deep h. term-some _ _ _ _ _ _ (c .before .before .before .before .before .before .before .before .before .before .before .before .before .before .before .before .before .before .if1 .left) h (λ d k. seq-at _ (c .before .before .before .before .before .before .before .before .before .before .before .before .before .before .before .take .ensures) (c .before .before .before .before .before .before .before .before .before .tag .given .1) (rw (node-variable _ _ _ _ _ _ (c .before .before .before .before .before .before .before .match2 .keys1)) (c .before .before .before .before .variable .ensures)))
+term-returns-3 t c = λ deep h. term-some _ _ _ _ _ _ (c .before .before .before .before .before .before .before .before .before .before .before .before .before .before .before .before .before .before .if1 .left) h (λ d k. seq-at _ (c .before .before .before .before .before .before .before .before .before .before .before .before .before .before .before .take .ensures .ran _ _ (node-bounded kind.tag _ (c .before .before .before .before .before .before .before .before .before .before .before .before .before .before .before .before .before .before .if1 .left))) (c .before .before .before .before .before .before .before .before .before .tag .given .1) (rw (node-variable _ _ _ _ _ _ (c .before .before .before .before .before .before .before .match2 .keys1)) (c .before .before .before .before .variable .ensures)))
 
 term-same-length-5 : (t : ℕ) → term-lts.Need-same-length-5 (
   take-reads.Asked,
@@ -547,7 +549,7 @@ term-returns-4 : (t : ℕ) → term-lts.Need-returns-4 (
   raised-below t,
   raised.Post,
 ) (term-at t) term.Post
-term-returns-4 t c = λ deep h. term-some _ _ _ _ _ _ (c .before .before .before .before .before .before .before .before .before .before .before .before .before .before .before .before .before .before .if1 .left) h (λ d k. seq-at _ (c .before .before .before .before .before .before .before .before .before .before .before .before .before .before .before .take .ensures) (c .before .before .before .before .before .before .before .before .before .tag .given .1) (rw (node-applied _ _ _ _ _ _ (c .before .before .before .before .before .before .before .match2 .keys2)) (c .before .before .before .before .applied .ensures d k)))
+term-returns-4 t c = λ deep h. term-some _ _ _ _ _ _ (c .before .before .before .before .before .before .before .before .before .before .before .before .before .before .before .before .before .before .if1 .left) h (λ d k. seq-at _ (c .before .before .before .before .before .before .before .before .before .before .before .before .before .before .before .take .ensures .ran _ _ (node-bounded kind.tag _ (c .before .before .before .before .before .before .before .before .before .before .before .before .before .before .before .before .before .before .if1 .left))) (c .before .before .before .before .before .before .before .before .before .tag .given .1) (rw (node-applied _ _ _ _ _ _ (c .before .before .before .before .before .before .before .match2 .keys2)) (c .before .before .before .before .applied .ensures d k)))
 
 term-same-length-7 : (t : ℕ) → term-lts.Need-same-length-7 (
   take-reads.Asked,
@@ -583,7 +585,7 @@ term-returns-5 : (t : ℕ) → term-lts.Need-returns-5 (
   raised-below t,
   raised.Post,
 ) (term-at t) term.Post
-term-returns-5 t c = λ deep h. term-some _ _ _ _ _ _ (c .before .before .before .before .before .before .before .before .before .before .before .before .before .before .before .before .before .before .if1 .left) h (λ d k. seq-at _ (c .before .before .before .before .before .before .before .before .before .before .before .before .before .before .before .take .ensures) (c .before .before .before .before .before .before .before .before .before .tag .given .1) (rw (node-raised _ _ _ _ _ _ (c .before .before .before .before .before .before .before .match2 .rest .0 .1) (c .before .before .before .before .before .before .before .match2 .rest .1)) (c .before .before .before .before .raised .ensures d k)))
+term-returns-5 t c = λ deep h. term-some _ _ _ _ _ _ (c .before .before .before .before .before .before .before .before .before .before .before .before .before .before .before .before .before .before .if1 .left) h (λ d k. seq-at _ (c .before .before .before .before .before .before .before .before .before .before .before .before .before .before .before .take .ensures .ran _ _ (node-bounded kind.tag _ (c .before .before .before .before .before .before .before .before .before .before .before .before .before .before .before .before .before .before .if1 .left))) (c .before .before .before .before .before .before .before .before .before .tag .given .1) (rw (node-raised _ _ _ _ _ _ (c .before .before .before .before .before .before .before .match2 .rest .0 .1) (c .before .before .before .before .before .before .before .match2 .rest .1)) (c .before .before .before .before .raised .ensures d k)))
 
 pub +applied+args+raised+term-spec : {M : Type 1} → statement M
 +applied+args+raised+term-spec = close μ-applied μ-args μ-raised μ-term (λ t. applied-lts.spec (

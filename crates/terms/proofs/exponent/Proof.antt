@@ -2,6 +2,9 @@
 use mathlib.Core.Path.{refl}
 use Rattle.fields.proofs.Seqs.{seq-no, seq-at, seq-last}
 use Rattle.grammar.specs.Terms.{an-exponent}
+use native.Mathlib.Omega.{arith}
+use Rattle.fields.specs.Kinds.{Kind as kind}
+use Rattle.fields.proofs.Ranges.{from-to-bounded, beside-bounded}
 use borrow.Author.Needs.{needs}
 use Rattle.terms.proofs.exponent.Statement.{statement}
 use Rattle.terms.proofs.exponent.Tie as tie
@@ -29,7 +32,7 @@ same-length-2 c = search needs
 
 returns : tie.Need-returns
 unfolding an-exponent
-returns c = seq-no (c .before .before .before .before .before .before .before .take .ensures) _ (c .before .m .given .1)
+returns c = seq-no (c .before .before .before .before .before .before .before .take .ensures .ran _ _ (from-to-bounded kind.power-a _ _)) _ (c .before .m .given .1)
 
 same-length-3 : tie.Need-same-length-3
 same-length-3 c = search needs
@@ -39,7 +42,7 @@ same-length-4 c = search needs
 
 returns-2 : tie.Need-returns-2
 unfolding an-exponent
-returns-2 c = seq-at _ (c .before .before .before .before .before .before .before .before .before .before .before .before .before .before .before .take .ensures) (c .before .before .before .before .before .before .before .before .before .a .given .1) (seq-last _ (λ b. refl) (rw (← (c .before .before .before .before .before .before .before .least-beside .ensures)) (c .before .before .before .before .take2 .ensures)))
+returns-2 c = seq-at _ (c .before .before .before .before .before .before .before .before .before .before .before .before .before .before .before .take .ensures .ran _ _ (from-to-bounded kind.power-a _ _)) (c .before .before .before .before .before .before .before .before .before .a .given .1) (seq-last _ (λ b. refl) (c .before .before .before .before .take2 .ensures .ran _ _ (beside-bounded kind.power-b _ (c .before .before .before .before .before .before .before .least-beside .ensures) (omega arith))))
 
 pub exponent-spec : {M : Type 1} → statement M
 exponent-spec =

@@ -1,6 +1,8 @@
 -- `terms::filling` meets its contract.
 use Rattle.fields.proofs.Seqs.{seq-no, seq-at}
 use Rattle.grammar.specs.Terms.{a-filling}
+use Rattle.fields.specs.Kinds.{Kind as kind}
+use Rattle.fields.proofs.Ranges.{from-to-bounded}
 use borrow.Author.Needs.{needs}
 use Rattle.terms.proofs.filling.Statement.{statement}
 use Rattle.terms.proofs.filling.Tie as tie
@@ -25,7 +27,7 @@ same-length-2 c = search needs
 
 returns : tie.Need-returns
 unfolding a-filling
-returns c = seq-no (c .before .before .before .before .before .before .before .take .ensures) _ (c .before .m .given .1)
+returns c = seq-no (c .before .before .before .before .before .before .before .take .ensures .ran _ _ (from-to-bounded kind.filling-count _ _)) _ (c .before .m .given .1)
 
 same-length-3 : tie.Need-same-length-3
 same-length-3 c = search needs
@@ -35,7 +37,7 @@ same-length-4 c = search needs
 
 returns-2 : tie.Need-returns-2
 unfolding a-filling
-returns-2 c = seq-at _ (c .before .before .before .before .before .before .before .before .before .before .before .before .before .before .take .ensures) (c .before .before .before .before .before .before .before .before .n .given .1) (c .before .before .before .before .pairs .ensures)
+returns-2 c = seq-at _ (c .before .before .before .before .before .before .before .before .before .before .before .before .before .before .take .ensures .ran _ _ (from-to-bounded kind.filling-count _ _)) (c .before .before .before .before .before .before .before .before .n .given .1) (c .before .before .before .before .pairs .ensures)
 
 pub filling-spec : {M : Type 1} → statement M
 filling-spec =

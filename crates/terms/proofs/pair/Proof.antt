@@ -1,6 +1,8 @@
 -- `terms::pair` meets its contract.
 use Rattle.fields.proofs.Seqs.{seq-no, seq-on, seq-at, ran-done}
 use Rattle.grammar.specs.Terms.{a-pair}
+use Rattle.fields.specs.Kinds.{Kind as kind}
+use Rattle.fields.proofs.Ranges.{from-to-bounded}
 use borrow.Author.Needs.{needs}
 use Rattle.terms.proofs.pair.Statement.{statement}
 use Rattle.terms.proofs.pair.Tie as tie
@@ -31,7 +33,7 @@ same-length-2 c = search needs
 
 returns : tie.Need-returns
 unfolding a-pair
-returns c = seq-no (c .before .before .before .before .before .before .before .take .ensures) _ (c .before .m .given .1)
+returns c = seq-no (c .before .before .before .before .before .before .before .take .ensures .ran _ _ (from-to-bounded kind.filled-variable _ _)) _ (c .before .m .given .1)
 
 same-length-3 : tie.Need-same-length-3
 same-length-3 c = search needs
@@ -41,7 +43,7 @@ same-length-4 c = search needs
 
 returns-2 : tie.Need-returns-2
 unfolding a-pair
-returns-2 c = seq-at _ (c .before .before .before .before .before .before .before .before .before .before .before .before .before .before .before .before .before .take .ensures) (c .before .before .before .before .before .before .before .before .before .before .before .x .given .1) (seq-no (c .before .before .before .before .before .before .before .any-term .ensures) _ (c .before .m2 .given .1))
+returns-2 c = seq-at _ (c .before .before .before .before .before .before .before .before .before .before .before .before .before .before .before .before .before .take .ensures .ran _ _ (from-to-bounded kind.filled-variable _ _)) (c .before .before .before .before .before .before .before .before .before .before .before .x .given .1) (seq-no (c .before .before .before .before .before .before .before .any-term .ensures) _ (c .before .m2 .given .1))
 
 same-length-5 : tie.Need-same-length-5
 same-length-5 c = search needs
@@ -51,7 +53,7 @@ same-length-6 c = search needs
 
 returns-3 : tie.Need-returns-3
 unfolding a-pair
-returns-3 c = seq-at _ (c .before .before .before .before .before .before .before .before .before .before .before .before .before .before .before .before .before .take .ensures) (c .before .before .before .before .before .before .before .before .before .before .before .x .given .1) (seq-on (c .before .before .before .before .before .before .before .any-term .ensures) _ (c .before .e .given .1) (λ g q. ran-done _ _ _ _))
+returns-3 c = seq-at _ (c .before .before .before .before .before .before .before .before .before .before .before .before .before .before .before .before .before .take .ensures .ran _ _ (from-to-bounded kind.filled-variable _ _)) (c .before .before .before .before .before .before .before .before .before .before .before .x .given .1) (seq-on (c .before .before .before .before .before .before .before .any-term .ensures) _ (c .before .e .given .1) (λ g q. ran-done _ _ _ _))
 
 pub pair-spec : {M : Type 1} → statement M
 pair-spec =

@@ -1,9 +1,7 @@
 -- `terms::symbol` meets its contract.
 use mathlib.Core.Path.{sym, _∙_}
 use Rattle.fields.proofs.Sources.{got-near}
-use Rattle.fields.proofs.Runs.{ran-bad, ran-refused, one-in}
-use Rattle.grammar.specs.Terms.{a-symbol}
-use Rattle.terms.proofs.Symbols.{symbol-unary, symbol-missing, symbol-ok}
+use Rattle.terms.proofs.Symbols.{symbol-bad, symbol-unary, symbol-missing, symbol-in}
 use borrow.Author.Needs.{needs}
 use Rattle.terms.proofs.symbol.Statement.{statement}
 use Rattle.terms.proofs.symbol.Tie as tie
@@ -21,12 +19,10 @@ arity-requires : tie.Need-arity-requires
 arity-requires c κs = search needs
 
 returns : tie.Need-returns
-unfolding a-symbol
-returns c = ran-refused _ 4 (c .before .before .before .before .before .look .ensures) (c .before .before .before .f .given .1) (symbol-unary _ _ (c .before .arity .ensures) (c .if1 .taken))
+returns c = symbol-unary _ _ (c .before .before .before .before .before .look .ensures) _ (c .before .before .before .f .given .1) (c .before .arity .ensures) (c .if1 .taken)
 
 returns-2 : tie.Need-returns-2
-unfolding a-symbol
-returns-2 c = ran-refused _ 4 (c .before .before .before .before .before .before .look .ensures) (c .before .before .before .before .f .given .1) (symbol-missing _ _ (c .before .before .arity .ensures) (c .before .if1 .left) (c .if2 .taken))
+returns-2 c = symbol-missing _ _ (c .before .before .before .before .before .before .look .ensures) _ (c .before .before .before .before .f .given .1) (c .before .before .arity .ensures) (c .before .if1 .left) (c .if2 .taken)
 
 pass-requires : tie.Need-pass-requires
 pass-requires c κs = let h = got-near _ _ _ _ _ (sym (c .before .before .before .before .before .before .before .before .look .ensures) ∙ c .before .before .before .before .before .before .f .given .1) in (h .narrow, h .few, h .close)
@@ -35,8 +31,7 @@ cast-t19 : tie.Need-cast-t19
 cast-t19 c = search needs
 
 returns-3 : tie.Need-returns-3
-unfolding a-symbol
-returns-3 c = ran-bad _ (c .before .before .before .look .ensures) (c .before .m .given .1)
+returns-3 c = symbol-bad _ _ (c .before .before .before .look .ensures) _ (c .before .m .given .1)
 
 same-length : tie.Need-same-length
 same-length c = search needs
@@ -45,8 +40,7 @@ same-length-2 : tie.Need-same-length-2
 same-length-2 c = search needs
 
 returns-4 : tie.Need-returns-4
-unfolding a-symbol
-returns-4 c = one-in _ _ _ (c .before .before .before .before .before .before .before .before .before .before .before .before .before .look .ensures) (c .before .before .before .before .before .before .before .before .before .before .before .f .given .1) (symbol-ok _ _ (c .before .before .before .before .before .before .before .before .before .arity .ensures) (c .before .before .before .before .before .before .before .before .if1 .left) (c .before .before .before .before .before .before .before .if2 .left)) (c .before .before .before .before .before .before .before .before .before .arity .ensures) (c .before .before .before .before .pass .ensures .0) (c .before .before .before .before .pass .ensures .1 .0) (c .before .before .before .before .pass .ensures .1 .1)
+returns-4 c = symbol-in _ _ (c .before .before .before .before .before .before .before .before .before .before .before .before .before .look .ensures) _ (c .before .before .before .before .before .before .before .before .before .before .before .f .given .1) (c .before .before .before .before .before .before .before .before .before .arity .ensures) (c .before .before .before .before .before .before .before .before .if1 .left) (c .before .before .before .before .before .before .before .if2 .left) (c .before .before .before .before .pass .ensures .0) (c .before .before .before .before .pass .ensures .1 .0) (c .before .before .before .before .pass .ensures .1 .1)
 
 pub symbol-spec : {M : Type 1} → statement M
 symbol-spec =

@@ -1,9 +1,7 @@
 -- `terms::unary` meets its contract.
 use mathlib.Core.Path.{refl, sym, _∙_}
 use Rattle.fields.proofs.Sources.{got-near}
-use Rattle.fields.proofs.Runs.{ran-bad, ran-refused, one-in}
-use Rattle.grammar.specs.Terms.{a-unary}
-use Rattle.terms.proofs.Symbols.{unary-not, unary-like, unary-ok}
+use Rattle.terms.proofs.Symbols.{unary-bad, unary-not, unary-like, unary-in}
 use borrow.Author.Needs.{needs}
 use Rattle.terms.proofs.unary.Statement.{statement}
 use Rattle.terms.proofs.unary.Tie as tie
@@ -21,22 +19,19 @@ arity-requires : tie.Need-arity-requires
 arity-requires c κs = search needs
 
 returns : tie.Need-returns
-unfolding a-unary
-returns c = ran-refused _ 4 (c .before .before .before .before .before .look .ensures) (c .before .before .before .f .given .1) (unary-not _ _ (c .before .arity .ensures) _ (c .if1 .taken))
+returns c = unary-not _ _ (c .before .before .before .before .before .look .ensures) _ (c .before .before .before .f .given .1) (c .before .arity .ensures) _ (c .if1 .taken)
 
 cast-k : tie.Need-cast-k
 cast-k c = search needs
 
 returns-2 : tie.Need-returns-2
-unfolding a-unary
-returns-2 c = ran-refused _ 5 (c .before .before .before .before .before .before .look .ensures) (c .before .before .before .before .f .given .1) (unary-like _ _ (c .before .before .arity .ensures) _ (c .before .if1 .left) (c .if2 .taken))
+returns-2 c = unary-like _ _ (c .before .before .before .before .before .before .look .ensures) _ (c .before .before .before .before .f .given .1) (c .before .before .arity .ensures) _ (c .before .if1 .left) (c .if2 .taken)
 
 pass-requires : tie.Need-pass-requires
 pass-requires c κs = let h = got-near _ _ _ _ _ (sym (c .before .before .before .before .before .before .before .before .look .ensures) ∙ c .before .before .before .before .before .before .f .given .1) in (h .narrow, h .few, h .close)
 
 returns-3 : tie.Need-returns-3
-unfolding a-unary
-returns-3 c = ran-bad _ (c .before .before .before .look .ensures) (c .before .m .given .1)
+returns-3 c = unary-bad _ _ (c .before .before .before .look .ensures) _ _ (c .before .m .given .1)
 
 same-length : tie.Need-same-length
 same-length c = search needs
@@ -45,8 +40,7 @@ same-length-2 : tie.Need-same-length-2
 same-length-2 c = search needs
 
 returns-4 : tie.Need-returns-4
-unfolding a-unary
-returns-4 c = one-in _ _ _ (c .before .before .before .before .before .before .before .before .before .before .before .before .before .look .ensures) (c .before .before .before .before .before .before .before .before .before .before .before .f .given .1) (unary-ok _ _ (c .before .before .before .before .before .before .before .before .before .arity .ensures) _ (c .before .before .before .before .before .before .before .before .if1 .left) (c .before .before .before .before .before .before .before .if2 .left)) refl (c .before .before .before .before .pass .ensures .0) (c .before .before .before .before .pass .ensures .1 .0) (c .before .before .before .before .pass .ensures .1 .1)
+returns-4 c = unary-in _ _ (c .before .before .before .before .before .before .before .before .before .before .before .before .before .look .ensures) _ (c .before .before .before .before .before .before .before .before .before .before .before .f .given .1) (c .before .before .before .before .before .before .before .before .before .arity .ensures) _ (c .before .before .before .before .before .before .before .before .if1 .left) (c .before .before .before .before .before .before .before .if2 .left) (c .before .before .before .before .pass .ensures .0) (c .before .before .before .before .pass .ensures .1 .0) (c .before .before .before .before .pass .ensures .1 .1)
 
 pub unary-spec : {M : Type 1} → statement M
 unary-spec =

@@ -1,6 +1,9 @@
 -- `terms::variable` meets its contract.
 use Rattle.fields.proofs.Seqs.{seq-no, seq-on, ran-done}
 use Rattle.grammar.specs.Terms.{a-variable}
+use native.Mathlib.Omega.{arith}
+use Rattle.fields.specs.Kinds.{Kind as kind}
+use Rattle.fields.proofs.Ranges.{any-bounded}
 use borrow.Author.Needs.{needs}
 use Rattle.terms.proofs.variable.Statement.{statement}
 use Rattle.terms.proofs.variable.Tie as tie
@@ -22,7 +25,7 @@ same-length-2 c = search needs
 
 returns : tie.Need-returns
 unfolding a-variable
-returns c = seq-no (c .before .before .before .before .before .before .before .take .ensures) _ (c .before .m .given .1)
+returns c = seq-no (c .before .before .before .before .before .before .before .take .ensures .ran _ _ (any-bounded kind.variable (omega arith))) _ (c .before .m .given .1)
 
 same-length-3 : tie.Need-same-length-3
 same-length-3 c = search needs
@@ -32,7 +35,7 @@ same-length-4 c = search needs
 
 returns-2 : tie.Need-returns-2
 unfolding a-variable
-returns-2 c = seq-on (c .before .before .before .before .before .before .before .take .ensures) _ (c .before .d .given .1) (λ b q. ran-done _ _ _ _)
+returns-2 c = seq-on (c .before .before .before .before .before .before .before .take .ensures .ran _ _ (any-bounded kind.variable (omega arith))) _ (c .before .d .given .1) (λ b q. ran-done _ _ _ _)
 
 pub variable-spec : {M : Type 1} → statement M
 variable-spec =

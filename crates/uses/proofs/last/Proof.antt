@@ -3,6 +3,9 @@ use mathlib.Core.Path.{refl}
 use Rattle.fields.proofs.Seqs.{seq-no, seq-at, seq-last, ran-done}
 use Rattle.grammar.specs.Certificates.{a-last}
 use Rattle.uses.proofs.Cases.{last-none, last-some}
+use native.Mathlib.Omega.{arith}
+use Rattle.fields.specs.Kinds.{Kind as kind}
+use Rattle.fields.proofs.Ranges.{any-bounded}
 use borrow.Author.Needs.{needs}
 use Rattle.uses.proofs.last.Statement.{statement}
 use Rattle.uses.proofs.last.Tie as tie
@@ -27,7 +30,7 @@ same-length-2 c = search needs
 
 returns : tie.Need-returns
 unfolding a-last
-returns c = seq-no (c .before .before .before .before .before .before .before .take .ensures) _ (c .before .m .given .1)
+returns c = seq-no (c .before .before .before .before .before .before .before .take .ensures .ran _ _ (any-bounded kind.use-bit (omega arith))) _ (c .before .m .given .1)
 
 same-length-3 : tie.Need-same-length-3
 same-length-3 c = search needs
@@ -37,7 +40,7 @@ same-length-4 c = search needs
 
 returns-2 : tie.Need-returns-2
 unfolding a-last
-returns-2 c = seq-at _ (c .before .before .before .before .before .before .before .before .take .ensures) (c .before .before .b .given .1) (rw (last-none _ _ _ (c .match2 .keys1)) (ran-done _ _ _ _))
+returns-2 c = seq-at _ (c .before .before .before .before .before .before .before .before .take .ensures .ran _ _ (any-bounded kind.use-bit (omega arith))) (c .before .before .b .given .1) (rw (last-none _ _ _ (c .match2 .keys1)) (ran-done _ _ _ _))
 
 same-length-5 : tie.Need-same-length-5
 same-length-5 c = search needs
@@ -47,7 +50,7 @@ same-length-6 c = search needs
 
 returns-3 : tie.Need-returns-3
 unfolding a-last
-returns-3 c = seq-at _ (c .before .before .before .before .before .before .before .before .before .before .before .before .before .before .before .take .ensures) (c .before .before .before .before .before .before .before .before .before .b .given .1) (rw (last-some _ _ _ (c .before .before .before .before .before .before .before .match2 .rest .1)) (seq-last _ (λ u. refl) (c .before .before .before .before .use-line .ensures)))
+returns-3 c = seq-at _ (c .before .before .before .before .before .before .before .before .before .before .before .before .before .before .before .take .ensures .ran _ _ (any-bounded kind.use-bit (omega arith))) (c .before .before .before .before .before .before .before .before .before .b .given .1) (rw (last-some _ _ _ (c .before .before .before .before .before .before .before .match2 .rest .1)) (seq-last _ (λ u. refl) (c .before .before .before .before .use-line .ensures)))
 
 pub last-spec : {M : Type 1} → statement M
 last-spec =
