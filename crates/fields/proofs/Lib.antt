@@ -13,3 +13,7 @@ pub mod Trips
 pub mod Always
 pub mod Many
 pub mod Outcomes
+pub mod Leads
+pub mod Stops
+pub mod Faults
+pub mod ListFaults

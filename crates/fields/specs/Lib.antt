@@ -4,3 +4,4 @@ pub mod Kinds
 pub mod Grammar
 pub mod Run
 pub mod Spells
+pub mod Faults

@@ -5,6 +5,7 @@ pub mod Opens
 pub mod Giving
 pub mod Besides
 pub mod RoundTrips
+pub mod FirstFaults
 pub mod OneAnswer
 pub mod OneFile
 pub mod Table
