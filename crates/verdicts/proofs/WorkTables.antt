@@ -83,8 +83,8 @@ module _ (book certificate : List ℕ) (is-bytes : Bytes book) (are-bytes : Byte
       go (short-table h e) = h
       go (long-book t h e) = absurd (omega (arith, ap (λ (r : Refusal). r .number) e))
       go (long-certificate t n h e) = absurd (omega (arith, ap (λ (r : Refusal). r .number) e))
-      go (bad-book t n m e) = absurd (omega (arith, file-named book-place _ book e))
-      go (bad-certificate t b f m e) = absurd (omega (arith, file-named certificate-place _ certificate e))
+      go (bad-book t n m number place f e) = absurd (omega (arith, ap (λ (r : Refusal). r .w) e))
+      go (bad-certificate t b f m number place g e) = absurd (omega (arith, ap (λ (r : Refusal). r .w) e))
       go (broken-check t b f K g e) = absurd (omega (arith, broken-inside (b .rules) K _ e))
 
   -- The work table is not touched by refusal 1,

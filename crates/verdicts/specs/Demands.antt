@@ -14,10 +14,11 @@ use Rattle.patterns.specs.Claims.{program}
 use Rattle.patterns.specs.Refusal.{Refusal, book-place, certificate-place, neither-place}
 use Rattle.patterns.specs.Judge.{Small, FirstBroken}
 use Rattle.patterns.specs.First.{Exp, Pair, Pace, one}
-use Rattle.grammar.specs.Books.{RuleBook}
+use Rattle.fields.specs.Faults.{Fault}
+use Rattle.grammar.specs.Books.{RuleBook, a-book}
 use Rattle.grammar.specs.Limits.{BookFits, CertificateFits}
 use Rattle.grammar.specs.Listing.{book-fields, certificate-fields}
-use Rattle.layout.specs.Files.{bad, refusal-at, open-book, open-certificate}
+use Rattle.layout.specs.Files.{refusal-at, certificate-of}
 
 -- ---- files that keep 01's layout and limits
 
@@ -54,10 +55,12 @@ pub data FirstRefusal (book certificate : List ℕ) (size : ℕ) (r : Refusal) :
   long-book : 8192 ≤ size → 16384 < length book → r ≡ refusal-at 2 book-place 0 → FirstRefusal book certificate size r
   long-certificate : 8192 ≤ size → length book ≤ 16384 → 32768 < length certificate → r ≡ refusal-at 2 certificate-place 0
       → FirstRefusal book certificate size r
-  bad-book : 8192 ≤ size → length book ≤ 16384 → length certificate ≤ 32768 → open-book book ≡ bad r
+  -- 3 to 7, as the fields tell that stand in the file (`Fault`)
+  bad-book : 8192 ≤ size → length book ≤ 16384 → length certificate ≤ 32768 → (number place : ℕ) → Fault book a-book number place
+      → r ≡ refusal-at number book-place place → FirstRefusal book certificate size r
+  bad-certificate : 8192 ≤ size → (b : RuleBook) → BookFile book b → length certificate ≤ 32768 → (number place : ℕ)
+      → Fault certificate (certificate-of b) number place → r ≡ refusal-at number certificate-place place
       → FirstRefusal book certificate size r
-  bad-certificate : 8192 ≤ size → (b : RuleBook) → BookFile book b → length certificate ≤ 32768
-      → open-certificate b certificate ≡ bad r → FirstRefusal book certificate size r
   broken-check : 8192 ≤ size → (b : RuleBook) → BookFile book b → (K : Certificate Exp Pair Pace)
       → CertificateFile b certificate K → FirstBroken one (b .rules) K r → FirstRefusal book certificate size r
 
