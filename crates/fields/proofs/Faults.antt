@@ -116,27 +116,27 @@ module _ {A : Type 0} (s : List ℕ) (p : Grammar A) (short : Short s) where
         end place at,
         b,
         reached-outcome place at
-        ∙ stops-bad (from s []) k r next (end place at) h m
-        (byte-past s short k (end place at) (few place at) (close place at) refl (omega arith) ∙ ap Bad (sym e)),
+            ∙ stops-bad (from s []) k r next (end place at) h m
+            (byte-past s short k (end place at) (few place at) (close place at) refl (omega arith) ∙ ap Bad (sym e)),
       )
   fault-stops m place (Fault.outside {k = k} {r = r} {next = next} at h l i e) n =
       let b = reached-bit place at in (
         end place at,
         b,
         reached-outcome place at
-        ∙ stops-refused (from s []) k r next (end place at) h (bitsAt s (end place at .bit) (bits k)) m
-        (byte-there s short k (end place at) (few place at) (close place at) refl (omega arith))
-        (outside-exactly r (bitsAt s (end place at .bit) (bits k)) .1 (h, subst (λ x. ¬ (InRange r (bitsAt s x (bits k)))) (sym b) i) ∙ ap some (sym e)),
+            ∙ stops-refused (from s []) k r next (end place at) h (bitsAt s (end place at .bit) (bits k)) m
+            (byte-there s short k (end place at) (few place at) (close place at) refl (omega arith))
+            (outside-exactly r (bitsAt s (end place at .bit) (bits k)) .1 (h, subst (λ x. ¬ (InRange r (bitsAt s x (bits k)))) (sym b) i) ∙ ap some (sym e)),
       )
   fault-stops m place (Fault.unnormal {k = k} {r = r} {next = next} at h l i u e) n =
       let b = reached-bit place at in (
         end place at,
         b,
         reached-outcome place at
-        ∙ stops-refused (from s []) k r next (end place at) h (bitsAt s (end place at .bit) (bits k)) m
-        (byte-there s short k (end place at) (few place at) (close place at) refl (omega arith))
-        (unnormal-exactly r (bitsAt s (end place at .bit) (bits k)) .1
-        (h, subst (λ x. InRange r (bitsAt s x (bits k))) (sym b) i, subst (λ x. Unnormal r (bitsAt s x (bits k))) (sym b) u) ∙ ap some (sym e)),
+            ∙ stops-refused (from s []) k r next (end place at) h (bitsAt s (end place at .bit) (bits k)) m
+            (byte-there s short k (end place at) (few place at) (close place at) refl (omega arith))
+            (unnormal-exactly r (bitsAt s (end place at .bit) (bits k)) .1
+            (h, subst (λ x. InRange r (bitsAt s x (bits k))) (sym b) i, subst (λ x. Unnormal r (bitsAt s x (bits k))) (sym b) u) ∙ ap some (sym e)),
       )
   fault-stops m place (Fault.too-many {k = k} {r = r} {next = next} at h e) n = (
     end place at,

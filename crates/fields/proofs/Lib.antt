@@ -17,3 +17,4 @@ pub mod Leads
 pub mod Stops
 pub mod Faults
 pub mod ListFaults
+pub mod Asking

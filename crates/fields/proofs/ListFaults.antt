@@ -104,8 +104,11 @@ module _ {A : Type 0} (l : List ℕ) (p : Grammar A) (short : ShortList l) where
 
     listed-within : length (at .fields) ≤ length l
     listed-within =
-        omega (arith, stands-within l 0 (at .fields) (omega arith)
-        (take-stands l 0 (at .fields) (ap (λ (k : ℕ). take k l) (sym (at .ends)) ∙ at .stand)))
+        omega (
+          arith,
+          stands-within l 0 (at .fields) (omega arith)
+              (take-stands l 0 (at .fields) (ap (λ (k : ℕ). take k l) (sym (at .ends)) ∙ at .stand)),
+        )
 
     few : end .n < 2 ^ 32
     few = let i = listed-within in omega arith
@@ -132,36 +135,36 @@ module _ {A : Type 0} (l : List ℕ) (p : Grammar A) (short : ShortList l) where
         end place at,
         b,
         listed-outcome place at
-        ∙ stops-bad (from [] l) k r next (end place at) h m
-        (number-past l k (end place at) (few place at) (close place at) refl (omega arith) ∙ ap Bad (sym e)),
+            ∙ stops-bad (from [] l) k r next (end place at) h m
+            (number-past l k (end place at) (few place at) (close place at) refl (omega arith) ∙ ap Bad (sym e)),
       )
   list-fault-stops m place (ListFault.too-wide {k = k} {r = r} {next = next} at h x y e) n =
       let b = listed-number place at in (
         end place at,
         b,
         listed-outcome place at
-        ∙ stops-bad (from [] l) k r next (end place at) h m
-        (number-wide l k (end place at) (few place at) (close place at) refl (omega arith) (subst (λ z. 2 ^ bits k ≤ getD l z 0) (sym b) y)
-        ∙ ap Bad (sym e)),
+            ∙ stops-bad (from [] l) k r next (end place at) h m
+            (number-wide l k (end place at) (few place at) (close place at) refl (omega arith) (subst (λ z. 2 ^ bits k ≤ getD l z 0) (sym b) y)
+            ∙ ap Bad (sym e)),
       )
   list-fault-stops m place (ListFault.outside {k = k} {r = r} {next = next} at h x y i e) n =
       let b = listed-number place at in (
         end place at,
         b,
         listed-outcome place at
-        ∙ stops-refused (from [] l) k r next (end place at) h (getD l (end place at .n) 0) m
-        (number-there l k (end place at) (few place at) (close place at) refl (omega arith) (subst (λ z. getD l z 0 < 2 ^ bits k) (sym b) y))
-        (outside-exactly r (getD l (end place at .n) 0) .1 (h, subst (λ z. ¬ (InRange r (getD l z 0))) (sym b) i) ∙ ap some (sym e)),
+            ∙ stops-refused (from [] l) k r next (end place at) h (getD l (end place at .n) 0) m
+            (number-there l k (end place at) (few place at) (close place at) refl (omega arith) (subst (λ z. getD l z 0 < 2 ^ bits k) (sym b) y))
+            (outside-exactly r (getD l (end place at .n) 0) .1 (h, subst (λ z. ¬ (InRange r (getD l z 0))) (sym b) i) ∙ ap some (sym e)),
       )
   list-fault-stops m place (ListFault.unnormal {k = k} {r = r} {next = next} at h x y i u e) n =
       let b = listed-number place at in (
         end place at,
         b,
         listed-outcome place at
-        ∙ stops-refused (from [] l) k r next (end place at) h (getD l (end place at .n) 0) m
-        (number-there l k (end place at) (few place at) (close place at) refl (omega arith) (subst (λ z. getD l z 0 < 2 ^ bits k) (sym b) y))
-        (unnormal-exactly r (getD l (end place at .n) 0) .1
-        (h, subst (λ z. InRange r (getD l z 0)) (sym b) i, subst (λ z. Unnormal r (getD l z 0)) (sym b) u) ∙ ap some (sym e)),
+            ∙ stops-refused (from [] l) k r next (end place at) h (getD l (end place at .n) 0) m
+            (number-there l k (end place at) (few place at) (close place at) refl (omega arith) (subst (λ z. getD l z 0 < 2 ^ bits k) (sym b) y))
+            (unnormal-exactly r (getD l (end place at .n) 0) .1
+            (h, subst (λ z. InRange r (getD l z 0)) (sym b) i, subst (λ z. Unnormal r (getD l z 0)) (sym b) u) ∙ ap some (sym e)),
       )
   list-fault-stops m place (ListFault.too-many {k = k} {r = r} {next = next} at h e) n = (
     end place at,

@@ -2,6 +2,7 @@
 pub mod Source
 pub mod Kinds
 pub mod Grammar
+pub mod Asks
 pub mod Run
 pub mod Spells
 pub mod Faults

@@ -4,3 +4,4 @@ pub mod Books
 pub mod Certificates
 pub mod Limits
 pub mod Listing
+pub mod Stated
