@@ -7,4 +7,3 @@ pub mod Besides
 pub mod RoundTrips
 pub mod OneAnswer
 pub mod OneFile
-pub mod Table
