@@ -1,10 +1,13 @@
--- Laws of 01's table of refusals: rows that are listed, the refusals 1 to 8, and that a refusal carries only what its number says.
-use Prim.Native.Nat.{ℕ, zero, suc, _+_, _≤_}
+-- Laws of 01's table of refusals: rows that are listed, that a refusal carries only what its number says, and the refusals 1 to 8.
+use Prim.Native.Nat.{ℕ, zero, suc, _≤_}
 use mathlib.Core.Path.{_≡_, refl, sym, subst}
 use mathlib.Core.Logic.{inl, inr}
 use mathlib.Core.List.{List, [], _∷_, _++_}
 use mathlib.Core.Option.{some, Option·some-injective, Option·none-ne-some}
+use mathlib.Core.Bool.{true}
 use native.Mathlib.Omega.{arith}
+use borrow.Author.Tests.{ltb-true}
+use lib.Dec.{ltb}
 use lib.ListN.{getElem?}
 use Rattle.patterns.specs.Every.{Every}
 use Rattle.patterns.specs.Refusal.{Refusal, neither-place}
@@ -38,6 +41,35 @@ among-shows P [] f r h = absurd h
 among-shows P (q ∷ rows) f r (inl h) = f .0 r h
 among-shows P (q ∷ rows) f r (inr h) = among-shows P rows (f .1) r h
 
+-- ---- what a refusal carries
+
+-- 1 to 8 carry no part, and 1, 2 and 8 no place
+abbrev Carries : Refusal → Type 0
+Carries r = (r .number ≤ 8 → r .b ≡ 0) × (r .number ≤ 2 → r .a ≡ 0) × (r .number ≡ 8 → r .a ≡ 0)
+
+bare : {n w : Column} (r : Refusal) → InRow (row n w (only 0) (only 0)) r → Carries r
+unfolding Allows
+bare r h = (λ m. h .b, λ m. h .a, λ e. h .a)
+
+placed : {w a : Column} (r : Refusal) → InRow (row (from-to 3 7) w a (only 0)) r → Carries r
+unfolding Allows
+placed r h = (λ m. h .b, λ m. omega (arith, h .number), λ e. omega (arith, h .number))
+
+-- 9 and beyond
+late : {n : ℕ} {w a b : Column} → ltb 8 n ≡ true → (r : Refusal) → InRow (row (only n) w a b) r → Carries r
+unfolding Allows
+late {n} e r h =
+    let l = ltb-true 8 n e in
+    (λ m. omega (arith, h .number), λ m. omega (arith, h .number), λ e. omega (arith, h .number))
+
+pub in-table-carries : (r : Refusal) → InTable r → Carries r
+unfolding InTable Every
+in-table-carries =
+    among-shows Carries refusal-rows (
+      bare,
+      (bare, (placed, (bare, (bare, (late refl, (late refl, (late refl, (late refl, (late refl, (late refl, (late refl, (late refl, (late refl, (late refl, (late refl, (late refl, (late refl, (late refl, (late refl, tt))))))))))))))))))),
+    )
+
 -- ---- the refusals 1 to 8
 
 pub short-table-in-table : InTable (refusal-at 1 neither-place 0)
@@ -60,30 +92,3 @@ no-room-in-table w f = among-at 3 refusal-rows _ _ refl (record { number = refl;
 pub unframed-in-table : (number : ℕ) → 2 ≤ number → number ≤ 3 → InTable (refusal-at number neither-place 0)
 unfolding InTable Allows
 unframed-in-table number l m = among-at 4 refusal-rows _ _ refl (record { number = (l, m); w = refl; a = refl; b = refl })
-
--- ---- what a refusal carries
-
--- 1 to 8 carry no part, and 1, 2 and 8 no place
-abbrev Carries : Refusal → Type 0
-Carries r = (r .number ≤ 8 → r .b ≡ 0) × (r .number ≤ 2 → r .a ≡ 0) × (r .number ≡ 8 → r .a ≡ 0)
-
-bare : {n w : Column} (r : Refusal) → InRow (row n w (only 0) (only 0)) r → Carries r
-unfolding Allows
-bare r h = (λ m. h .b, λ m. h .a, λ e. h .a)
-
-placed : {w a : Column} (r : Refusal) → InRow (row (from-to 3 7) w a (only 0)) r → Carries r
-unfolding Allows
-placed r h = (λ m. h .b, λ m. omega (arith, h .number), λ e. omega (arith, h .number))
-
--- 9 and beyond
-late : (n : ℕ) {w a b : Column} (r : Refusal) → InRow (row (only (9 + n)) w a b) r → Carries r
-unfolding Allows
-late n r h = (λ m. omega (arith, h .number), λ m. omega (arith, h .number), λ e. omega (arith, h .number))
-
-pub in-table-carries : (r : Refusal) → InTable r → Carries r
-unfolding InTable Every
-in-table-carries =
-    among-shows Carries refusal-rows (
-      bare,
-      (bare, (placed, (bare, (bare, (late 0, (late 2, (late 1, (late 3, (late 7, (late 7, (late 0, (late 3, (late 0, (late 1, (late 4, (late 7, (late 5, (late 6, (late 7, tt))))))))))))))))))),
-    )
