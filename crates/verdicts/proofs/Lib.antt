@@ -9,6 +9,7 @@ pub mod Demands
 pub mod InTable
 pub mod CheckedLines
 pub mod CheckedTable
+pub mod AnsweredTable
 pub mod WorkTables
 pub mod Framing
 pub mod OneVerdict
