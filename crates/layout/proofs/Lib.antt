@@ -8,4 +8,3 @@ pub mod RoundTrips
 pub mod FirstFaults
 pub mod OneAnswer
 pub mod OneFile
-pub mod Table

@@ -2,4 +2,3 @@
 pub mod Files
 pub mod Answers
 pub mod Openings
-pub mod Table

@@ -10,7 +10,7 @@ pub mod Counters
 pub mod Compute
 pub mod First
 pub mod Formed
-pub mod Table
+pub mod Worked
 pub mod Judged
 pub mod Simplify
 pub mod Fills

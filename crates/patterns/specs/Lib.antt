@@ -15,4 +15,4 @@ pub mod Refusal
 pub mod Demand
 pub mod Judge
 pub mod First
-pub mod Table
+pub mod Examples

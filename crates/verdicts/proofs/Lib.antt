@@ -6,6 +6,10 @@ pub mod Turns
 pub mod Printed
 pub mod Layers
 pub mod Demands
+pub mod InTable
+pub mod CheckedLines
+pub mod CheckedTable
+pub mod AnsweredTable
 pub mod WorkTables
 pub mod Framing
 pub mod OneVerdict

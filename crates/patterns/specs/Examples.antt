@@ -1,15 +1,11 @@
--- 01, "The table to be proved": its book W and its cases 1 to 10, one after the other.
+-- What 01's "The table to be proved" speaks of: terms, the book W, lines over it, and the certificate of cases 9 and 10.
 use Prim.Native.Nat.{ℕ}
-use mathlib.Core.Path.{_≡_}
-use mathlib.Core.List.{List, [], _∷_}
+use mathlib.Core.List.{[], _∷_}
 use mathlib.Core.Option.{none, some}
-use Rattle.patterns.specs.Term.{var, fun, pow, nil, cons, fill}
+use Rattle.patterns.specs.Term.{var, fun, pow, nil, cons}
 use Rattle.patterns.specs.Derive.{Book}
-use Rattle.patterns.specs.Certificate.{by, Line, fact, call, unfolds, descends, Certificate}
-use Rattle.patterns.specs.Checks.{Lines}
-use Rattle.patterns.specs.Edition.{reindex, form}
-use Rattle.patterns.specs.Judge.{Verdict, accept, refuse, judge}
-use Rattle.patterns.specs.First.{Exp, ex, Pattern, Pair, Pace, one}
+use Rattle.patterns.specs.Certificate.{Line, fact, call, unfolds, descends, Certificate}
+use Rattle.patterns.specs.First.{Exp, ex, Pattern, Pair, Pace}
 
 -- the variables x, y, z; the unary symbols s and r; and 0, gt, add, while and f
 abbrev pub x : Pattern
@@ -88,34 +84,3 @@ certificate α = record {
   lines = gt-base ∷ gt-line ∷ add-base ∷ add-line 2 ∷ while-line ∷ [];
   closing = record { line = 4; pace = record { k = 1; α = α }; fills = (0, s 1 0 x) ∷ [] };
 }
-
--- what a case of the table says
-pub data Case : Type 0 where
-  -- a term has a normal form
-  has-form : Pattern → Pattern → Case
-  -- a term is another
-  is : Pattern → Pattern → Case
-  -- lines over W are good, each over the earlier ones
-  good : List (Line Exp Pair) → Case
-  -- a certificate over W gets an answer
-  gets : Certificate Exp Pair Pace → Verdict Pace → Case
-
-unfoldable pub True : Case → Type 0
-True (has-form t u) = form one t ≡ u
-True (is t u) = t ≡ u
-True (good ls) = Lines one W [] ls
-True (gets K v) = judge one W K ≡ v
-
-abbrev pub cases : List Case
-cases =
-    has-form (s 1 0 (s 1 1 x)) (s 2 1 x)
-    ∷ has-form (reindex one (0, 0) (s 1 0 x)) x
-    ∷ has-form (reindex one (0, 0) (s 0 1 (r 1 0 (s 0 1 x)))) (s 0 2 x)
-    ∷ is (fill (by ((0, y) ∷ (1, x) ∷ [])) (f x y)) (f y x)
-    ∷ is (reindex one (3, 2) (s 2 1 x)) (s 6 5 x)
-    ∷ good (gt-base ∷ gt-line ∷ [])
-    ∷ good (add-base ∷ add-line 0 ∷ [])
-    ∷ good (gt-base ∷ gt-line ∷ add-base ∷ add-line 2 ∷ while-line ∷ [])
-    ∷ gets (certificate 1) (accept 4 (record { k = 1; α = 1 }))
-    ∷ gets (certificate 0) (refuse (record { number = 15; w = 3; a = 4; b = 1 }))
-    ∷ []

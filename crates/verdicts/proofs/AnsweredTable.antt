@@ -1,0 +1,133 @@
+-- What the four file operations refuse is in 01's table, where what the files themselves are refused with is.
+use Prim.Native.Nat.{ℕ, _≤_}
+use mathlib.Core.Path.{_≡_, refl, ap, subst}
+use mathlib.Core.List.{List, []}
+use mathlib.Core.Bool.{Bool, true, false, cond}
+use native.Mathlib.Omega.{arith}
+use lib.ListN.{length}
+use lib.Dec.{eqb, ltb}
+use Rattle.bits.specs.Packed.{packed}
+use Rattle.patterns.specs.Refusal.{Refusal, book-place, certificate-place}
+use Rattle.fields.specs.declared.Cursor.{Cursor}
+use Rattle.fields.specs.Source.{from}
+use Rattle.fields.specs.Grammar.{Grammar, Outcome, outcome, trace}
+use Rattle.fields.specs.Grammar.Outcome.{ok, no}
+use Rattle.grammar.specs.Books.{RuleBook, a-book}
+use Rattle.books.specs.Counts.{start}
+use Rattle.layout.specs.Files.{Opened, good, bad, refusal-at, ends-at, closed-bytes, open-bytes, closed-list, open-list, certificate-of, open-book, open-certificate}
+use Rattle.layout.specs.Answers.{Given, gives, refuses, listed, written, within, beside, reading-book, writing-book, listing-beside, writing-beside, reading-certificate, writing-certificate, Told, filled-with, refused-with, told}
+use Rattle.verdicts.specs.InTable.{InTable}
+use Rattle.verdicts.proofs.InTable.{long-file-in-table, field-in-table, no-room-in-table}
+
+-- what a file, an operation or an answer is refused with is in the table
+abbrev pub OpenedInTable : {A : Type 0} → Opened A → Type 0
+OpenedInTable o = (r : Refusal) → o ≡ bad r → InTable r
+
+abbrev pub GivenInTable : Given → Type 0
+GivenInTable g = (r : Refusal) → g ≡ refuses r → InTable r
+
+abbrev pub ToldInTable : Told → Type 0
+ToldInTable t = (r : Refusal) → t ≡ refused-with r → InTable r
+
+-- ---- a whole file, whose fields are refused with 3 to 7
+
+abbrev pub Numbered : {A : Type 0} → Outcome A → Type 0
+Numbered {A} o = (m : ℕ) (d : Cursor) → o ≡ no m d → (3 ≤ m) × (m ≤ 7)
+
+same-bad : {A : Type 0} (r q : Refusal) → _≡_ {A = Opened A} (bad r) (bad q) → r ≡ q
+same-bad r q e = cc
+
+module _ {A : Type 0} (w : ℕ) (file : w ≤ 1) (p : Grammar A) where
+  refused : (m place : ℕ) → 3 ≤ m → m ≤ 7 → OpenedInTable {A = A} (bad (refusal-at m w place))
+  refused m place l n r e = subst InTable (same-bad _ _ e) (field-in-table m w place l n file)
+
+  ended : (b : Bool) (a : A) (fs : List (ℕ × ℕ)) (place : ℕ) → OpenedInTable (cond b (good a fs) (bad (refusal-at 7 w place)))
+  ended true a fs place r e = let z : _≡_ {A = ℕ} 0 1 = cc in absurd (omega arith)
+  ended false a fs place r e = refused 7 place (omega arith) (omega arith) r e
+
+  pub bytes-in-table : (s : List ℕ) → Numbered (outcome (from s []) p (start false)) → OpenedInTable (open-bytes w p s)
+  unfolding open-bytes
+  bytes-in-table s numbered = go (outcome (from s []) p (start false)) numbered
+    where
+      fs : List (ℕ × ℕ)
+      fs = trace (from s []) p (start false)
+
+      go : (o : Outcome A) → Numbered o → OpenedInTable (closed-bytes w s o fs)
+      go (ok a c) n = ended (ends-at s (c .bit)) a fs (c .bit)
+      go (no m c) n = refused m (c .bit) (n m c refl .0) (n m c refl .1)
+
+  pub list-in-table : (l : List ℕ) → Numbered (outcome (from [] l) p (start true)) → OpenedInTable (open-list w p l)
+  unfolding open-list
+  list-in-table l numbered = go (outcome (from [] l) p (start true)) numbered
+    where
+      fs : List (ℕ × ℕ)
+      fs = trace (from [] l) p (start true)
+
+      go : (o : Outcome A) → Numbered o → OpenedInTable (closed-list w l o fs)
+      go (ok a c) n = ended (eqb (c .n) (length l)) a fs (c .n)
+      go (no m c) n = refused m (c .n) (n m c refl .0) (n m c refl .1)
+
+-- ---- the operations
+
+same-refusal : (r q : Refusal) → refuses r ≡ refuses q → r ≡ q
+same-refusal r q e = cc
+
+listed-in-table : {A : Type 0} (o : Opened A) → OpenedInTable o → GivenInTable (listed o)
+listed-in-table (good a fs) h r e = let z : _≡_ {A = ℕ} 0 1 = cc in absurd (omega arith)
+listed-in-table (bad q) h r e = h r (ap bad (same-refusal q r e))
+
+module _ (w : ℕ) (file : w ≤ 1) where
+  long-in-table : (b : Bool) (rest : Given) → GivenInTable rest → GivenInTable (cond b (refuses (refusal-at 2 w 0)) rest)
+  long-in-table true rest h r e = subst InTable (same-refusal _ _ e) (long-file-in-table w file)
+  long-in-table false rest h r e = h r e
+
+  within-in-table : (most : ℕ) (s : List ℕ) (rest : Given) → GivenInTable rest → GivenInTable (within w most s rest)
+  within-in-table most s rest h = long-in-table (ltb most (length s)) rest h
+
+  written-in-table : {A : Type 0} (most : ℕ) (o : Opened A) → OpenedInTable o → GivenInTable (written w most o)
+  written-in-table most (good a fs) h =
+      long-in-table (ltb most (length (packed fs))) (gives (packed fs))
+      (λ r e. let z : _≡_ {A = ℕ} 0 1 = cc in absurd (omega arith))
+  written-in-table most (bad q) h = λ r e. h r (ap bad (same-refusal q r e))
+
+  -- and with the output that is lent
+  pub told-in-table : (g : Given) (room : ℕ) → GivenInTable g → ToldInTable (told w g room)
+  unfolding told
+  told-in-table (refuses q) room h r e = h r cc
+  told-in-table (gives places) room h r e = go (ltb room (length places)) e
+    where
+      go : (b : Bool) → cond b (refused-with (refusal-at 8 w 0)) (filled-with (length places)) ≡ refused-with r → InTable r
+      go true q = let same : refusal-at 8 w 0 ≡ r = cc in subst InTable same (no-room-in-table w file)
+      go false q = let z : _≡_ {A = ℕ} 0 1 = cc in absurd (omega arith)
+
+beside-in-table : (o : Opened RuleBook) (f : RuleBook → Given) → OpenedInTable o → ((b : RuleBook) → GivenInTable (f b))
+    → GivenInTable (beside o f)
+beside-in-table (good b fs) f h g r e = g b r e
+beside-in-table (bad q) f h g r e = h r (ap bad (same-refusal q r e))
+
+pub reading-book-in-table : (s : List ℕ) → OpenedInTable (open-book s) → GivenInTable (reading-book s)
+unfolding reading-book
+reading-book-in-table s h =
+    within-in-table book-place (omega arith) 16384 s _ (listed-in-table (open-book s) h)
+
+pub writing-book-in-table : (l : List ℕ) → OpenedInTable (open-list book-place a-book l) → GivenInTable (writing-book l)
+unfolding writing-book
+writing-book-in-table l h = written-in-table book-place (omega arith) 16384 _ h
+
+module _ (book : List ℕ) (opened : OpenedInTable (open-book book)) where
+  pub reading-certificate-in-table : (s : List ℕ) → ((b : RuleBook) → OpenedInTable (open-certificate b s))
+      → GivenInTable (reading-certificate book s)
+  unfolding reading-certificate listing-beside
+  reading-certificate-in-table s h =
+      within-in-table book-place (omega arith) 16384 book _
+      (within-in-table certificate-place (omega arith) 32768 s _
+      (beside-in-table (open-book book) _ opened (λ b. listed-in-table (open-certificate b s) (h b))))
+
+  pub writing-certificate-in-table : (l : List ℕ)
+      → ((b : RuleBook) → OpenedInTable (open-list certificate-place (certificate-of b) l))
+      → GivenInTable (writing-certificate book l)
+  unfolding writing-certificate writing-beside
+  writing-certificate-in-table l h =
+      within-in-table book-place (omega arith) 16384 book _
+      (beside-in-table (open-book book) _ opened
+      (λ b. written-in-table certificate-place (omega arith) 32768 _ (h b)))

@@ -1,0 +1,94 @@
+-- Laws of 01's table of refusals: rows that are listed, that a refusal carries only what its number says, and the refusals 1 to 8.
+use Prim.Native.Nat.{ℕ, zero, suc, _≤_}
+use mathlib.Core.Path.{_≡_, refl, sym, subst}
+use mathlib.Core.Logic.{inl, inr}
+use mathlib.Core.List.{List, [], _∷_, _++_}
+use mathlib.Core.Option.{some, Option·some-injective, Option·none-ne-some}
+use mathlib.Core.Bool.{true}
+use native.Mathlib.Omega.{arith}
+use borrow.Author.Tests.{ltb-true}
+use lib.Dec.{ltb}
+use lib.ListN.{getElem?}
+use Rattle.patterns.specs.Every.{Every}
+use Rattle.patterns.specs.Refusal.{Refusal, neither-place}
+use Rattle.layout.specs.Files.{refusal-at}
+use Rattle.verdicts.specs.InTable.{Column, only, from-to, Allows, Row, row, InRow, Among, refusal-rows, InTable}
+
+-- ---- rows
+
+pub among-at : (k : ℕ) (rows : List Row) (q : Row) (r : Refusal) → getElem? rows k ≡ some q → InRow q r → Among rows r
+unfolding Among
+among-at k [] q r e h = absurd (Option·none-ne-some q e)
+among-at zero (p ∷ rows) q r e h = inl (subst (λ x. InRow x r) (sym (Option·some-injective p q e)) h)
+among-at (suc k) (p ∷ rows) q r e h = inr (among-at k rows q r e h)
+
+pub among-first : (ps qs : List Row) (r : Refusal) → Among ps r → Among (ps ++ qs) r
+unfolding Among
+among-first [] qs r h = absurd h
+among-first (p ∷ ps) qs r (inl h) = inl h
+among-first (p ∷ ps) qs r (inr h) = inr (among-first ps qs r h)
+
+pub among-rest : (ps qs : List Row) (r : Refusal) → Among qs r → Among (ps ++ qs) r
+unfolding Among
+among-rest [] qs r h = h
+among-rest (p ∷ ps) qs r h = inr (among-rest ps qs r h)
+
+-- what every row shows of its refusals, all rows show
+pub among-shows : (P : Refusal → Type 0) (rows : List Row) → Every (λ q. (r : Refusal) → InRow q r → P r) rows
+    → (r : Refusal) → Among rows r → P r
+unfolding Among Every
+among-shows P [] f r h = absurd h
+among-shows P (q ∷ rows) f r (inl h) = f .0 r h
+among-shows P (q ∷ rows) f r (inr h) = among-shows P rows (f .1) r h
+
+-- ---- what a refusal carries
+
+-- 1 to 8 carry no part, and 1, 2 and 8 no place
+abbrev Carries : Refusal → Type 0
+Carries r = (r .number ≤ 8 → r .b ≡ 0) × (r .number ≤ 2 → r .a ≡ 0) × (r .number ≡ 8 → r .a ≡ 0)
+
+bare : {n w : Column} (r : Refusal) → InRow (row n w (only 0) (only 0)) r → Carries r
+unfolding Allows
+bare r h = (λ m. h .b, λ m. h .a, λ e. h .a)
+
+placed : {w a : Column} (r : Refusal) → InRow (row (from-to 3 7) w a (only 0)) r → Carries r
+unfolding Allows
+placed r h = (λ m. h .b, λ m. omega (arith, h .number), λ e. omega (arith, h .number))
+
+-- 9 and beyond
+late : {n : ℕ} {w a b : Column} → ltb 8 n ≡ true → (r : Refusal) → InRow (row (only n) w a b) r → Carries r
+unfolding Allows
+late {n} e r h =
+    let l = ltb-true 8 n e in
+    (λ m. omega (arith, h .number), λ m. omega (arith, h .number), λ e. omega (arith, h .number))
+
+pub in-table-carries : (r : Refusal) → InTable r → Carries r
+unfolding InTable Every
+in-table-carries =
+    among-shows Carries refusal-rows (
+      bare,
+      (bare, (placed, (bare, (bare, (late refl, (late refl, (late refl, (late refl, (late refl, (late refl, (late refl, (late refl, (late refl, (late refl, (late refl, (late refl, (late refl, (late refl, (late refl, tt))))))))))))))))))),
+    )
+
+-- ---- the refusals 1 to 8
+
+pub short-table-in-table : InTable (refusal-at 1 neither-place 0)
+unfolding InTable Allows
+short-table-in-table = among-at 0 refusal-rows _ _ refl (record { number = refl; w = refl; a = refl; b = refl })
+
+pub long-file-in-table : (w : ℕ) → w ≤ 1 → InTable (refusal-at 2 w 0)
+unfolding InTable Allows
+long-file-in-table w f = among-at 1 refusal-rows _ _ refl (record { number = refl; w = (omega arith, f); a = refl; b = refl })
+
+pub field-in-table : (number w a : ℕ) → 3 ≤ number → number ≤ 7 → w ≤ 1 → InTable (refusal-at number w a)
+unfolding InTable Allows
+field-in-table number w a l m f =
+    among-at 2 refusal-rows _ _ refl (record { number = (l, m); w = (omega arith, f); a = tt; b = refl })
+
+pub no-room-in-table : (w : ℕ) → w ≤ 1 → InTable (refusal-at 8 w 0)
+unfolding InTable Allows
+no-room-in-table w f = among-at 3 refusal-rows _ _ refl (record { number = refl; w = (omega arith, f); a = refl; b = refl })
+
+pub unframed-in-table : (number : ℕ) → 2 ≤ number → number ≤ 3 → InTable (refusal-at number neither-place 0)
+unfolding InTable Allows
+unframed-in-table number l m = among-at 4 refusal-rows _ _ refl (record { number = (l, m); w = refl; a = refl; b = refl })
