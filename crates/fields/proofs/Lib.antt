@@ -18,3 +18,4 @@ pub mod Stops
 pub mod Faults
 pub mod ListFaults
 pub mod Asking
+pub mod Refusing

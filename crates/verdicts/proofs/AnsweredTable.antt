@@ -1,4 +1,4 @@
--- What the four file operations refuse is in 01's table, where what the files themselves are refused with is.
+-- What the two files are refused with, read or written, is in 01's table, and so is what the four file operations refuse.
 use Prim.Native.Nat.{ℕ, _≤_}
 use mathlib.Core.Path.{_≡_, refl, ap, subst}
 use mathlib.Core.List.{List, []}
@@ -12,6 +12,7 @@ use Rattle.fields.specs.declared.Cursor.{Cursor}
 use Rattle.fields.specs.Source.{from}
 use Rattle.fields.specs.Grammar.{Grammar, Outcome, outcome, trace}
 use Rattle.fields.specs.Grammar.Outcome.{ok, no}
+use Rattle.fields.proofs.Refusing.{refused-few}
 use Rattle.grammar.specs.Books.{RuleBook, a-book}
 use Rattle.books.specs.Counts.{start}
 use Rattle.layout.specs.Files.{Opened, good, bad, refusal-at, ends-at, closed-bytes, open-bytes, closed-list, open-list, certificate-of, open-book, open-certificate}
@@ -29,10 +30,7 @@ GivenInTable g = (r : Refusal) → g ≡ refuses r → InTable r
 abbrev pub ToldInTable : Told → Type 0
 ToldInTable t = (r : Refusal) → t ≡ refused-with r → InTable r
 
--- ---- a whole file, whose fields are refused with 3 to 7
-
-abbrev pub Numbered : {A : Type 0} → Outcome A → Type 0
-Numbered {A} o = (m : ℕ) (d : Cursor) → o ≡ no m d → (3 ≤ m) × (m ≤ 7)
+-- ---- a whole file is refused with 3 to 7
 
 same-bad : {A : Type 0} (r q : Refusal) → _≡_ {A = Opened A} (bad r) (bad q) → r ≡ q
 same-bad r q e = cc
@@ -45,27 +43,35 @@ module _ {A : Type 0} (w : ℕ) (file : w ≤ 1) (p : Grammar A) where
   ended true a fs place r e = let z : _≡_ {A = ℕ} 0 1 = cc in absurd (omega arith)
   ended false a fs place r e = refused 7 place (omega arith) (omega arith) r e
 
-  pub bytes-in-table : (s : List ℕ) → Numbered (outcome (from s []) p (start false)) → OpenedInTable (open-bytes w p s)
+  pub bytes-in-table : (s : List ℕ) → OpenedInTable (open-bytes w p s)
   unfolding open-bytes
-  bytes-in-table s numbered = go (outcome (from s []) p (start false)) numbered
+  bytes-in-table s = go (outcome (from s []) p (start false)) refl
     where
       fs : List (ℕ × ℕ)
       fs = trace (from s []) p (start false)
 
-      go : (o : Outcome A) → Numbered o → OpenedInTable (closed-bytes w s o fs)
-      go (ok a c) n = ended (ends-at s (c .bit)) a fs (c .bit)
-      go (no m c) n = refused m (c .bit) (n m c refl .0) (n m c refl .1)
+      go : (o : Outcome A) → outcome (from s []) p (start false) ≡ o → OpenedInTable (closed-bytes w s o fs)
+      go (ok a c) e = ended (ends-at s (c .bit)) a fs (c .bit)
+      go (no m c) e = let n = refused-few s [] p (start false) m c e in refused m (c .bit) (n .0) (omega (arith, n .1))
 
-  pub list-in-table : (l : List ℕ) → Numbered (outcome (from [] l) p (start true)) → OpenedInTable (open-list w p l)
+  pub list-in-table : (l : List ℕ) → OpenedInTable (open-list w p l)
   unfolding open-list
-  list-in-table l numbered = go (outcome (from [] l) p (start true)) numbered
+  list-in-table l = go (outcome (from [] l) p (start true)) refl
     where
       fs : List (ℕ × ℕ)
       fs = trace (from [] l) p (start true)
 
-      go : (o : Outcome A) → Numbered o → OpenedInTable (closed-list w l o fs)
-      go (ok a c) n = ended (eqb (c .n) (length l)) a fs (c .n)
-      go (no m c) n = refused m (c .n) (n m c refl .0) (n m c refl .1)
+      go : (o : Outcome A) → outcome (from [] l) p (start true) ≡ o → OpenedInTable (closed-list w l o fs)
+      go (ok a c) e = ended (eqb (c .n) (length l)) a fs (c .n)
+      go (no m c) e = let n = refused-few [] l p (start true) m c e in refused m (c .n) (n .0) (omega (arith, n .1))
+
+pub book-in-table : (s : List ℕ) → OpenedInTable (open-book s)
+unfolding open-book
+book-in-table s = bytes-in-table book-place (omega arith) a-book s
+
+pub certificate-in-table : (b : RuleBook) (s : List ℕ) → OpenedInTable (open-certificate b s)
+unfolding open-certificate
+certificate-in-table b s = bytes-in-table certificate-place (omega arith) (certificate-of b) s
 
 -- ---- the operations
 
@@ -105,29 +111,27 @@ beside-in-table : (o : Opened RuleBook) (f : RuleBook → Given) → OpenedInTab
 beside-in-table (good b fs) f h g r e = g b r e
 beside-in-table (bad q) f h g r e = h r (ap bad (same-refusal q r e))
 
-pub reading-book-in-table : (s : List ℕ) → OpenedInTable (open-book s) → GivenInTable (reading-book s)
+-- what each operation refuses
+pub reading-book-in-table : (s : List ℕ) → GivenInTable (reading-book s)
 unfolding reading-book
-reading-book-in-table s h =
-    within-in-table book-place (omega arith) 16384 s _ (listed-in-table (open-book s) h)
+reading-book-in-table s = within-in-table book-place (omega arith) 16384 s _ (listed-in-table (open-book s) (book-in-table s))
 
-pub writing-book-in-table : (l : List ℕ) → OpenedInTable (open-list book-place a-book l) → GivenInTable (writing-book l)
+pub writing-book-in-table : (l : List ℕ) → GivenInTable (writing-book l)
 unfolding writing-book
-writing-book-in-table l h = written-in-table book-place (omega arith) 16384 _ h
+writing-book-in-table l =
+    written-in-table book-place (omega arith) 16384 _ (list-in-table book-place (omega arith) a-book l)
 
-module _ (book : List ℕ) (opened : OpenedInTable (open-book book)) where
-  pub reading-certificate-in-table : (s : List ℕ) → ((b : RuleBook) → OpenedInTable (open-certificate b s))
-      → GivenInTable (reading-certificate book s)
-  unfolding reading-certificate listing-beside
-  reading-certificate-in-table s h =
-      within-in-table book-place (omega arith) 16384 book _
-      (within-in-table certificate-place (omega arith) 32768 s _
-      (beside-in-table (open-book book) _ opened (λ b. listed-in-table (open-certificate b s) (h b))))
+pub reading-certificate-in-table : (book s : List ℕ) → GivenInTable (reading-certificate book s)
+unfolding reading-certificate listing-beside
+reading-certificate-in-table book s =
+    within-in-table book-place (omega arith) 16384 book _
+    (within-in-table certificate-place (omega arith) 32768 s _
+    (beside-in-table (open-book book) _ (book-in-table book) (λ b. listed-in-table (open-certificate b s) (certificate-in-table b s))))
 
-  pub writing-certificate-in-table : (l : List ℕ)
-      → ((b : RuleBook) → OpenedInTable (open-list certificate-place (certificate-of b) l))
-      → GivenInTable (writing-certificate book l)
-  unfolding writing-certificate writing-beside
-  writing-certificate-in-table l h =
-      within-in-table book-place (omega arith) 16384 book _
-      (beside-in-table (open-book book) _ opened
-      (λ b. written-in-table certificate-place (omega arith) 32768 _ (h b)))
+pub writing-certificate-in-table : (book l : List ℕ) → GivenInTable (writing-certificate book l)
+unfolding writing-certificate writing-beside
+writing-certificate-in-table book l =
+    within-in-table book-place (omega arith) 16384 book _
+    (beside-in-table (open-book book) _ (book-in-table book)
+    (λ b. written-in-table certificate-place (omega arith) 32768 _
+    (list-in-table certificate-place (omega arith) (certificate-of b) l)))

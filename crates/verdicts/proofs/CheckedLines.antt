@@ -97,14 +97,15 @@ module _ (a : ℕ) (few : a ≤ 254) where
         fine-compare unfold-rows line-place a 10 j m k (unfold-at 2 10 _ j refl (from, to))
         (unfold-at 4 16 _ j refl (omega arith, to))
 
-    fine-use : (d : Demand Exp) → Named d → Every FineUnfold (check 11 j d ∷ [])
+    -- where a call stands behind it
+    fine-use : j ≤ 7 → (d : Demand Exp) → Named d → Every FineUnfold (check 11 j d ∷ [])
     unfolding Allows
-    fine-use d t = fine-alone unfold-rows line-place a 11 j d (unfold-at 1 11 _ j refl (from, to)) t
+    fine-use early d t = fine-alone unfold-rows line-place a 11 j d (unfold-at 1 11 _ j refl (from, early)) t
 
-    fine-pending : (vs : List (Term Exp)) (m : Mark Exp) → Every FineUnfold (pending j vs m)
+    fine-pending : (vs : List (Term Exp)) (m : Mark Exp) → j + length vs ≤ 8 → Every FineUnfold (pending j vs m)
     unfolding pending Every Named
-    fine-pending [] m = tt
-    fine-pending (v ∷ vs) m = fine-use (present m) tt
+    fine-pending [] m n = tt
+    fine-pending (v ∷ vs) m n = fine-use (omega arith) (present m) tt
 
   -- over the claims of the lines before this one
   module _ (arities : List ℕ) (es : List (Claim Exp)) (before : a ≡ length es) where
@@ -118,14 +119,14 @@ module _ (a : ℕ) (few : a ≤ 254) where
         let c = below-listed es (u .line) (omega (arith, g .earlier)) in
         fine-given unfold-rows line-place a (getElem? es (u .line)) _ (c .0) (c .1)
         (every-append FineUnfold _ _
-        (every-append FineUnfold _ _ (fine-pending j l (omega arith) vs (c .0 .right)) (fine-call j l (omega arith) _ _))
+        (every-append FineUnfold _ _ (fine-pending j l (omega arith) vs (c .0 .right) (omega arith)) (fine-call j l (omega arith) _ _))
         (fine-right m _))
     fine-parts θ j (v ∷ vs) (u ∷ us) last m l n h f g =
         let fits : UseFits arities a u × Every (UseFits arities a) us = unfold Every in f in
         let c = below-listed es (u .line) (omega (arith, fits .0 .earlier)) in
         fine-given unfold-rows line-place a (getElem? es (u .line)) _ (c .0) (c .1)
         (every-append FineUnfold _ _
-        (every-append FineUnfold _ _ (fine-use j l (omega arith) (empty (c .0 .right)) tt) (fine-call j l (omega arith) _ _))
+        (every-append FineUnfold _ _ (fine-use j l (omega arith) (omega arith) (empty (c .0 .right)) tt) (fine-call j l (omega arith) _ _))
         (fine-parts θ (suc j) vs us last m (omega arith) (omega arith) (omega arith) (fits .1) g))
 
     fine-stops : (θ : Fills Exp) (vs : List (Term Exp)) (s : Stop Exp Pair) (m : Mark Exp) → length vs ≤ 8

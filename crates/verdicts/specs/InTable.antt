@@ -75,12 +75,12 @@ at-line number part = row (only number) (only line-place) a-line part
 abbrev pub at-closing : ℕ → Column → Row
 at-closing number part = row (only number) (only closing-place) a-line part
 
--- "Unfold": part 0, "else 9"; part j, for the at most 8 calls of a rule, "else 11 [..] else 10"; part 15, "else 12". 16 stands where
--- sides are compared.
+-- "Unfold": part 0, "else 9"; part j, for the at most 8 calls of a rule, "else 11", if calls stand behind it, "else 10"; part 15,
+-- "else 12". 16 stands where sides are compared.
 abbrev pub unfold-rows : List Row
 unfold-rows =
     at-line 9 (only 0)
-    ∷ at-line 11 (from-to 1 8)
+    ∷ at-line 11 (from-to 1 7)
     ∷ at-line 10 (from-to 1 8)
     ∷ at-line 12 (only 15)
     ∷ at-line 16 (from-to 0 8)
