@@ -2,7 +2,7 @@
 //! place and part, and closes with 'N passed, 0 failed', one for each that was met;
 //! it fails at the first difference, and if one was never met.
 
-use compare::answers::answers_of_length;
+use compare::answers::answers_in_numbers;
 use compare::coverage::{wanted_of_files, wanted_of_judging, wanted_of_the_program, Coverage};
 use compare::files::perform_both;
 use compare::follow::Followed;
@@ -101,7 +101,7 @@ fn judgings(options: &Options, coverage: &mut Coverage) -> Compared<Followed> {
                 followed.follow(book, certificate, &mut random)?;
             }
             match number % 100 {
-                0 => answers_of_length(number / 100 % 8, book, certificate, &mut random),
+                0 => answers_in_numbers(book, certificate, &mut random),
                 _ => Ok(()),
             }
         });
