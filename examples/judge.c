@@ -42,7 +42,7 @@ int main(int count, char **words)
         return 2;
     }
     gearcinder_judge(book, book_length, certificate, certificate_length,
-                     work, GEARCINDER_WORK_NUMBERS, answer, GEARCINDER_ANSWER_NUMBERS);
+                     work, GEARCINDER_WORK_NUMBERS, answer);
     if (answer[0] == 0) {
         printf("accept %" PRIu64 " %" PRIu64 " %" PRIu64 "\n", answer[1], answer[2], answer[3]);
         return 0;

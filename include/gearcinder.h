@@ -3,14 +3,21 @@
  *
  * A slice is a pointer and a length, counted in its numbers. The pointer is
  * aligned and not null, also for a length of 0. A slice that is lent to be written
- * shares no memory with any other slice of the call. No function allocates, and
- * none keeps anything between calls.
+ * shares no memory with any other slice of the call, and the answer with none. No
+ * function allocates, and none keeps anything between calls.
  *
- * Each function answers by five numbers and returns 1. If fewer than five numbers
- * are lent for the answer, nothing is done and 0 comes back. The first number is 0
- * if all is well and 1 for a refusal; then the other four are the refusal's number,
- * W, A and B. W says what the refusal speaks of: 0 the book, 1 the certificate, 2 a
- * line, 3 the closing, 4 neither.
+ * Each function writes its answer, five numbers, whatever it is given. The first is
+ * 0 if all is well and 1 for a refusal; then the other four are the refusal's
+ * number, W, A and B. W says what the refusal speaks of: 0 the book, 1 the
+ * certificate, 2 a line, 3 the closing, 4 neither.
+ *
+ * What an accepted certificate means. For every number of steps, every call of the
+ * family (the named line's left, at an index from alpha on, its variables filled by
+ * any terms) has a derivation of that length by some choice of rules, in which each
+ * step replaces the first call by the calls of a rule so filled that its head is
+ * exactly that call. It does not mean that every choice of rules goes on: with the
+ * book `a. a :- b. a :- a.` a certificate for `a` is accepted, although `a` also
+ * succeeds at once by the first rule and gets stuck by the second.
  */
 #ifndef GEARCINDER_H
 #define GEARCINDER_H
@@ -33,35 +40,35 @@ extern "C" {
 /* Judges a certificate over its rule book: 0, line, k, alpha, 0 if it is accepted.
  * The work table may hold anything; it is all zeros afterwards, or untouched if it
  * is too short. */
-uint64_t gearcinder_judge(const uint8_t *book, size_t book_length,
-                          const uint8_t *certificate, size_t certificate_length,
-                          uint64_t *work, size_t work_length,
-                          uint64_t *answer, size_t answer_length);
+void gearcinder_judge(const uint8_t *book, size_t book_length,
+                      const uint8_t *certificate, size_t certificate_length,
+                      uint64_t *work, size_t work_length,
+                      uint64_t answer[GEARCINDER_ANSWER_NUMBERS]);
 
 /* The next four answer 0, the number of places filled, 0, 0, 0. The rest of the
  * output is kept; a refusal keeps it whole. */
 
 /* Reads a book's bytes into a list of its fields. */
-uint64_t gearcinder_read_book(const uint8_t *book, size_t book_length,
-                              uint16_t *out, size_t out_length,
-                              uint64_t *answer, size_t answer_length);
+void gearcinder_read_book(const uint8_t *book, size_t book_length,
+                          uint16_t *out, size_t out_length,
+                          uint64_t answer[GEARCINDER_ANSWER_NUMBERS]);
 
 /* Reads a certificate's bytes, with its book's, into a list of its fields. */
-uint64_t gearcinder_read_certificate(const uint8_t *book, size_t book_length,
-                                     const uint8_t *certificate, size_t certificate_length,
-                                     uint16_t *out, size_t out_length,
-                                     uint64_t *answer, size_t answer_length);
+void gearcinder_read_certificate(const uint8_t *book, size_t book_length,
+                                 const uint8_t *certificate, size_t certificate_length,
+                                 uint16_t *out, size_t out_length,
+                                 uint64_t answer[GEARCINDER_ANSWER_NUMBERS]);
 
 /* Writes a list of a book's fields into its bytes. */
-uint64_t gearcinder_write_book(const uint16_t *fields, size_t fields_length,
-                               uint8_t *out, size_t out_length,
-                               uint64_t *answer, size_t answer_length);
+void gearcinder_write_book(const uint16_t *fields, size_t fields_length,
+                           uint8_t *out, size_t out_length,
+                           uint64_t answer[GEARCINDER_ANSWER_NUMBERS]);
 
 /* Writes a list of a certificate's fields, with its book's bytes, into its bytes. */
-uint64_t gearcinder_write_certificate(const uint8_t *book, size_t book_length,
-                                      const uint16_t *fields, size_t fields_length,
-                                      uint8_t *out, size_t out_length,
-                                      uint64_t *answer, size_t answer_length);
+void gearcinder_write_certificate(const uint8_t *book, size_t book_length,
+                                  const uint16_t *fields, size_t fields_length,
+                                  uint8_t *out, size_t out_length,
+                                  uint64_t answer[GEARCINDER_ANSWER_NUMBERS]);
 
 #ifdef __cplusplus
 }

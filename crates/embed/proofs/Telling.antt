@@ -1,102 +1,53 @@
--- What the code stores is the answer as five numbers; with fewer lent nothing is done.
-use Prim.Native.Nat.{ℕ, _<_, _≤_}
-use mathlib.Core.Path.{_≡_, refl, _∙_, ap}
+-- The numbers that the code makes are those of the answer, and a call whose answer they tell keeps the promise.
+use Prim.Native.Nat.{ℕ}
+use mathlib.Core.Path.{_≡_, _∙_, ap}
 use mathlib.Core.List.{List, [], _∷_}
-use native.Mathlib.Omega.{arith}
-use borrow.Author.Tests.{lt-ltb, le-ltb}
-use lib.ListN.{length, set}
-use Rattle.patterns.specs.First.{Pace}
-use Rattle.patterns.specs.Judge.{Verdict}
+use lib.ListN.{length}
 use Rattle.layout.specs.declared.Answer.{Answer}
 use Rattle.layout.specs.declared.Answer.the-variants.{Filled, Refused}
 use Rattle.layout.specs.declared.Refusal.{Refusal as Fault}
-use Rattle.layout.specs.Answers.{Given, Told, told, output, w-of, paper-refusal, paper}
+use Rattle.layout.specs.Answers.{Given, told, output, w-of, paper-refusal, paper}
 use Rattle.verdicts.specs.declared.Acceptance.{Acceptance}
-use Rattle.verdicts.specs.declared.Verdict.{Verdict as Ruling}
+use Rattle.verdicts.specs.declared.Verdict.{Verdict}
 use Rattle.verdicts.specs.declared.Verdict.the-variants.{Accepted, Refused as Denied}
-use Rattle.verdicts.specs.Judging.{work-after}
+use Rattle.verdicts.specs.Judging.{judging, work-after}
 use Rattle.verdicts.specs.Verdicts.{paper-pace, paper as paper-verdict}
-use Rattle.embed.specs.Numbers.{five, refusal-told, answer-told, verdict-told, with-answer, done, output-after, answer-after, table-after, verdict-after}
+use Rattle.embed.specs.Numbers.{refusal-numbers, answer-numbers, verdict-numbers}
+use Rattle.embed.specs.Promises.{FileTold, JudgeTold}
 
-pub five-stored : (l : List ℕ) (kind first second third fourth : ℕ) → 5 ≤ length l
-    → set (set (set (set (set l 0 kind) 1 first) 2 second) 3 third) 4 fourth ≡ five kind first second third fourth l
-unfolding five
-five-stored [] i j k m n h = absurd (omega arith)
-five-stored (x ∷ []) i j k m n h = absurd (omega arith)
-five-stored (x ∷ y ∷ []) i j k m n h = absurd (omega arith)
-five-stored (x ∷ y ∷ z ∷ []) i j k m n h = absurd (omega arith)
-five-stored (x ∷ y ∷ z ∷ u ∷ []) i j k m n h = absurd (omega arith)
-five-stored (x ∷ y ∷ z ∷ u ∷ v ∷ l) i j k m n h = refl
+-- ---- the numbers of each kind of answer
 
--- ---- an answer told
+pub of-refusal : (r : Fault) {w : ℕ} → w ≡ w-of (r .place)
+    → 1 ∷ r .number ∷ w ∷ r .a ∷ r .b ∷ [] ≡ refusal-numbers (paper-refusal r)
+unfolding refusal-numbers paper-refusal
+of-refusal r h = rw h
 
-module _ (before : List ℕ) {after : List ℕ} where
-  pub tells-refusal : (r : Fault) {w : ℕ} → w ≡ w-of (r .place) → after ≡ five 1 (r .number) w (r .a) (r .b) before
-      → after ≡ refusal-told (paper-refusal r) before
-  unfolding refusal-told paper-refusal
-  tells-refusal r h p = p ∙ ap (λ (w : ℕ). five 1 (r .number) w (r .a) (r .b) before) h
+pub of-filled : {said : Answer} {n : ℕ} → said ≡ Filled n → 0 ∷ n ∷ 0 ∷ 0 ∷ 0 ∷ [] ≡ answer-numbers (paper said)
+unfolding answer-numbers paper
+of-filled e = rw e
 
-  pub tells-filled : {said : Answer} {n : ℕ} → said ≡ Filled n → after ≡ five 0 n 0 0 0 before
-      → after ≡ answer-told (paper said) before
-  unfolding answer-told paper
-  tells-filled e p = p ∙ rw e
+pub of-refused : {said : Answer} {r : Fault} {numbers : List ℕ} → said ≡ Refused r → numbers ≡ refusal-numbers (paper-refusal r)
+    → numbers ≡ answer-numbers (paper said)
+unfolding answer-numbers paper
+of-refused e p = p ∙ rw e
 
-  pub tells-refused : {said : Answer} {r : Fault} → said ≡ Refused r → after ≡ refusal-told (paper-refusal r) before
-      → after ≡ answer-told (paper said) before
-  unfolding answer-told paper
-  tells-refused e p = p ∙ rw e
+pub of-accepted : {v : Verdict} (a : Acceptance) → v ≡ Accepted a
+    → 0 ∷ a .line ∷ a .k ∷ a .alpha ∷ 0 ∷ [] ≡ verdict-numbers (paper-verdict v)
+unfolding verdict-numbers paper-verdict paper-pace
+of-accepted a e = rw e
 
-  pub tells-accepted : {v : Ruling} (a : Acceptance) → v ≡ Accepted a → after ≡ five 0 (a .line) (a .k) (a .alpha) 0 before
-      → after ≡ verdict-told (paper-verdict v) before
-  unfolding verdict-told paper-verdict paper-pace
-  tells-accepted a e p = p ∙ rw e
+pub of-denied : {v : Verdict} {r : Fault} {numbers : List ℕ} → v ≡ Denied r → numbers ≡ refusal-numbers (paper-refusal r)
+    → numbers ≡ verdict-numbers (paper-verdict v)
+unfolding verdict-numbers paper-verdict
+of-denied e p = p ∙ rw e
 
-  pub tells-denied : {v : Ruling} {r : Fault} → v ≡ Denied r → after ≡ refusal-told (paper-refusal r) before
-      → after ≡ verdict-told (paper-verdict v) before
-  unfolding verdict-told paper-verdict
-  tells-denied e p = p ∙ rw e
+-- ---- a whole call
 
--- ---- an operation
+pub tells-file : {w : ℕ} {g : Given} {out after numbers : List ℕ} (said : Answer) → paper said ≡ told w g (length out)
+    → after ≡ output g out → numbers ≡ answer-numbers (paper said) → FileTold w g out after numbers
+tells-file said p q s = record { answered = s ∙ ap answer-numbers p; filled = q }
 
-not-lent : {A : Type 0} (answer : List ℕ) (x y : A) → length answer < 5 → x ≡ with-answer answer x y
-not-lent answer x y h = rw (lt-ltb (length answer) 5 h)
-
-lent : {A : Type 0} (answer : List ℕ) (x y : A) → 5 ≤ length answer → y ≡ with-answer answer x y
-lent answer x y h = rw (le-ltb (length answer) 5 h)
-
--- the promises of a function that reads or writes, and of the judge
-abbrev pub Exported : ℕ → Given → ℕ → List ℕ → List ℕ → List ℕ → List ℕ → Type 0
-Exported w g r out out₁ answer answer₁ =
-    (r ≡ done answer) × ((out₁ ≡ output-after g out answer) × (answer₁ ≡ answer-after w g out answer))
-
-abbrev pub Judged : Verdict Pace → ℕ → List ℕ → List ℕ → List ℕ → List ℕ → Type 0
-Judged v r work work₁ answer answer₁ =
-    (r ≡ done answer) × ((work₁ ≡ table-after work answer) × (answer₁ ≡ verdict-after v answer))
-
-module _ (w : ℕ) (g : Given) (out answer : List ℕ) where
-  pub undone : length answer < 5 → Exported w g 0 out out answer answer
-  unfolding done output-after answer-after
-  undone h = (not-lent answer _ _ h, (not-lent answer _ _ h, not-lent answer _ _ h))
-
-  pub told-whole : {out₁ answer₁ : List ℕ} (said : Answer) → 5 ≤ length answer
-      → (paper said ≡ told w g (length out)) × (out₁ ≡ output g out) → answer₁ ≡ answer-told (paper said) answer
-      → Exported w g 1 out out₁ answer answer₁
-  unfolding done output-after answer-after
-  told-whole said h p s = (
-    lent answer _ _ h,
-    (p .1 ∙ lent answer _ _ h, s ∙ ap (λ (t : Told). answer-told t answer) (p .0) ∙ lent answer _ _ h),
-  )
-
-module _ (v : Verdict Pace) (work answer : List ℕ) where
-  pub unjudged : length answer < 5 → Judged v 0 work work answer answer
-  unfolding done table-after verdict-after
-  unjudged h = (not-lent answer _ _ h, (not-lent answer _ _ h, not-lent answer _ _ h))
-
-  pub judged-whole : {work₁ answer₁ : List ℕ} (r : Ruling) → 5 ≤ length answer
-      → (paper-verdict r ≡ v) × (work₁ ≡ work-after work) → answer₁ ≡ verdict-told (paper-verdict r) answer
-      → Judged v 1 work work₁ answer answer₁
-  unfolding done table-after verdict-after
-  judged-whole r h p s = (
-    lent answer _ _ h,
-    (p .1 ∙ lent answer _ _ h, s ∙ ap (λ (t : Verdict Pace). verdict-told t answer) (p .0) ∙ lent answer _ _ h),
-  )
+pub tells-verdict : {book certificate work after numbers : List ℕ} (v : Verdict)
+    → paper-verdict v ≡ judging book certificate (length work) → after ≡ work-after work
+    → numbers ≡ verdict-numbers (paper-verdict v) → JudgeTold book certificate work after numbers
+tells-verdict v p q s = record { answered = s ∙ ap verdict-numbers p; cleared = q }

@@ -1,2 +1,3 @@
--- The answers of the judge, of reading and of writing as numbers.
+-- The promises of the door: answers as numbers, and what is left in lent memory.
 pub mod Numbers
+pub mod Promises

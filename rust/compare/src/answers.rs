@@ -1,20 +1,14 @@
-//! The five numbers of an answer, and what happens if fewer are lent.
+//! The five numbers of an answer, between guards.
 
 use crate::lent::{noise, Lent, Word};
 use crate::Compared;
-use gearcinder::raw;
+use gearcinder::raw::{self, Numbers};
 use generate::random::Random;
 use second::judging::WORK_NUMBERS;
 use second::{Answer, Refusal, Verdict};
 
-/// Calls all five functions with an answer slice of this length, and everything else
-/// as good as it can be. With fewer than five nothing may change.
-pub fn answers_of_length(
-    length: usize,
-    book: &[u8],
-    certificate: &[u8],
-    random: &mut Random,
-) -> Compared<()> {
+/// Calls all five functions on these files and their fields, with room for everything.
+pub fn answers_in_numbers(book: &[u8], certificate: &[u8], random: &mut Random) -> Compared<()> {
     // No field is narrower than a bit.
     let room = 8 * (book.len() + certificate.len());
     let (mut book_list, mut certificate_list) = (vec![0; room], vec![0; room]);
@@ -26,35 +20,30 @@ pub fn answers_of_length(
     let list: Vec<u16> = noise(room, random);
     let bytes: Vec<u8> = noise(room, random);
     one_call(
-        length,
         &work,
         random,
         |work| verdict_numbers(second::judge(book, certificate, work)),
         |work, answer| raw::judge(book, certificate, work, answer),
     )?;
     one_call(
-        length,
         &list,
         random,
         |out| answer_numbers(second::read_book(book, out)),
         |out, answer| raw::read_book(book, out, answer),
     )?;
     one_call(
-        length,
         &list,
         random,
         |out| answer_numbers(second::read_certificate(book, certificate, out)),
         |out, answer| raw::read_certificate(book, certificate, out, answer),
     )?;
     one_call(
-        length,
         &bytes,
         random,
         |out| answer_numbers(second::write_book(&book_list, out)),
         |out, answer| raw::write_book(&book_list, out, answer),
     )?;
     one_call(
-        length,
         &bytes,
         random,
         |out| answer_numbers(second::write_certificate(book, &certificate_list, out)),
@@ -70,43 +59,38 @@ fn keep_filled(answer: Answer, list: &mut Vec<u16>) {
     }
 }
 
-/// One call: its return value, its answer and what it leaves in lent memory.
+/// One call: its answer and what it leaves in lent memory.
 fn one_call<T: Word>(
-    length: usize,
     before: &[T],
     random: &mut Random,
-    expected: impl FnOnce(&mut [T]) -> [u64; 5],
-    call: impl FnOnce(&mut [T], &mut [u64]) -> u64,
+    expected: impl FnOnce(&mut [T]) -> Numbers,
+    call: impl FnOnce(&mut [T], &mut Numbers),
 ) -> Compared<()> {
     let mut expected_memory = before.to_vec();
-    let mut expected_answer: Vec<u64> = noise(length, random);
+    let expected_answer = expected(&mut expected_memory);
     let mut memory = Lent::new(before, random);
-    let mut answer = Lent::new(&expected_answer, random);
-    let done = call(memory.lend(), answer.lend());
-    if let Some(numbers) = expected_answer.get_mut(..5) {
-        numbers.copy_from_slice(&expected(&mut expected_memory));
-    }
-    let good = done == u64::from(length >= 5)
-        && memory.holds(&expected_memory)
-        && answer.holds(&expected_answer);
-    match good {
+    let mut answer = Lent::new(&noise::<u64>(5, random), random);
+    call(memory.lend(), answer.lend().try_into().expect("five numbers"));
+    match memory.holds(&expected_memory) && answer.holds(&expected_answer) {
         true => Ok(()),
-        false => Err(format!("an answer of {length} numbers: {done} came back, or memory differs")),
+        false => {
+            Err(format!("{:?} instead of {expected_answer:?}, or memory differs", answer.content()))
+        }
     }
 }
 
-fn refusal_numbers(refusal: Refusal) -> [u64; 5] {
+fn refusal_numbers(refusal: Refusal) -> Numbers {
     [1, u64::from(refusal.number), u64::from(refusal.w), refusal.a, refusal.b]
 }
 
-fn answer_numbers(answer: Answer) -> [u64; 5] {
+fn answer_numbers(answer: Answer) -> Numbers {
     match answer {
         Answer::Filled(count) => [0, count as u64, 0, 0, 0],
         Answer::Refused(refusal) => refusal_numbers(refusal),
     }
 }
 
-fn verdict_numbers(verdict: Verdict) -> [u64; 5] {
+fn verdict_numbers(verdict: Verdict) -> Numbers {
     match verdict {
         Verdict::Accepted { line, k, alpha } => [0, line, k, alpha, 0],
         Verdict::Refused(refusal) => refusal_numbers(refusal),

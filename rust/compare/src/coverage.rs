@@ -44,19 +44,18 @@ impl Coverage {
         }
     }
 
-    pub fn run(&mut self, verdict: &Verdict) {
+    pub fn run(&mut self, program: &str, verdict: &Verdict) {
         match verdict {
-            Verdict::Accepted { .. } => self.count("program: accepted".to_string()),
+            Verdict::Accepted { .. } => self.count(format!("{program}: accepted")),
             Verdict::Refused(refusal) if refusal.number < 9 => {
-                self.count(without_part("program", refusal));
+                self.count(without_part(program, refusal));
             }
-            Verdict::Refused(refusal) => self.count(format!("program: {:2}", refusal.number)),
+            Verdict::Refused(refusal) => self.count(format!("{program}: {:2}", refusal.number)),
         }
     }
 
-    /// Prints every count, and answers how many of the wanted were met and which
-    /// were not.
-    pub fn report(&self, wanted: &[String]) -> (usize, Vec<String>) {
+    /// Prints every count, and answers which of the wanted were not met.
+    pub fn report(&self, wanted: &[String]) -> Vec<String> {
         for (label, count) in &self.met {
             println!("{count:8}  {label}");
         }
@@ -65,7 +64,7 @@ impl Coverage {
         for label in &missing {
             println!("{:8}  {label}", 0);
         }
-        (wanted.len() - missing.len(), missing)
+        missing
     }
 }
 
@@ -132,8 +131,9 @@ pub fn wanted_of_files() -> Vec<String> {
     wanted
 }
 
-/// The refusals that only the program gives, and a few others.
+/// The refusals that only the program gives, and a few others, however it is fed.
 pub fn wanted_of_the_program() -> Vec<String> {
     let labels = ["accepted", " 2 neither", " 3 neither", " 3 certificate", " 9", "16"];
-    labels.map(|label| format!("program: {label}")).to_vec()
+    let of = |program: &str| labels.map(|label| format!("{program}: {label}"));
+    [of("program"), of("program, in pieces")].concat()
 }

@@ -1,18 +1,19 @@
 //! The comparison as a program. It prints how many inputs met each refusal number,
-//! place and part, and closes with 'N passed, 0 failed', one for each that was met;
-//! it fails at the first difference, and if one was never met.
+//! place and part, and closes with 'N passed, 0 failed': one for each kind of run, and
+//! one if each of these was met. It fails at the first difference.
 
-use compare::answers::answers_of_length;
+use compare::answers::answers_in_numbers;
 use compare::coverage::{wanted_of_files, wanted_of_judging, wanted_of_the_program, Coverage};
 use compare::files::perform_both;
 use compare::follow::Followed;
 use compare::judging::{files_of, judge_both};
-use compare::program::run_both;
+use compare::program::{run_both, Feeding};
 use compare::proved::Proved;
 use compare::Compared;
 use generate::inputs::{Inputs, Kind};
 use generate::random::Random;
 use generate::writing::Tasks;
+use second::judging::INPUT_BYTES;
 use second::Verdict;
 use std::path::{Path, PathBuf};
 use std::process::ExitCode;
@@ -23,6 +24,9 @@ const HELP: &str = "compare [--seed N] [--inputs N] [--tasks N] [--program JUDGE
     --tasks     files to be read and lists to be written (8000)
     --program   the program `judge`, to be run as well
     --runs      inputs for the program (1500)";
+
+/// How much a pipe holds.
+const PIPE_BYTES: usize = 65_536;
 
 struct Options {
     seed: u64,
@@ -66,24 +70,27 @@ fn main() -> ExitCode {
     }
 }
 
-/// How many of the wanted answers were met, if all were, with no difference.
+/// How many kinds of runs passed, and the test of what they met.
 fn compared(options: &Options) -> Compared<usize> {
     let mut coverage = Coverage::default();
     let mut wanted = [wanted_of_judging(), wanted_of_files()].concat();
+    let mut passed = 2;
     let followed = judgings(options, &mut coverage)?;
     readings_and_writings(options, &mut coverage)?;
     if let Some(program) = &options.program {
         runs(program, options, &mut coverage)?;
+        runs_in_pieces(program, options, &mut coverage)?;
         wanted.extend(wanted_of_the_program());
+        passed += 2;
     }
-    let (met, missing) = coverage.report(&wanted);
+    let missing = coverage.report(&wanted);
     let Followed { derivations, steps, rounds, too_large } = followed;
     println!(
         "followed: {derivations} derivations of accepted certificates, {steps} steps, \
          {rounds} rounds; {too_large} too large to begin"
     );
     match missing.is_empty() {
-        true => Ok(met),
+        true => Ok(passed + 1),
         false => Err(format!("never met: {}", missing.join("; "))),
     }
 }
@@ -101,7 +108,7 @@ fn judgings(options: &Options, coverage: &mut Coverage) -> Compared<Followed> {
                 followed.follow(book, certificate, &mut random)?;
             }
             match number % 100 {
-                0 => answers_of_length(number / 100 % 8, book, certificate, &mut random),
+                0 => answers_in_numbers(book, certificate, &mut random),
                 _ => Ok(()),
             }
         });
@@ -128,14 +135,31 @@ fn runs(program: &Path, options: &Options, coverage: &mut Coverage) -> Compared<
     for number in 0..options.runs {
         let mut input = inputs.next_input();
         if number % 50 == 0 {
-            let most = second::judging::INPUT_BYTES;
-            input.framed.resize(most + number / 50 % 3, 0);
+            input.framed.resize(INPUT_BYTES + number / 50 % 3, 0);
         } else if number % 10 == 0 && input.kind == Kind::Frame {
             input.framed.truncate(number / 10 % 3);
         }
-        let verdict = run_both(program, &input.framed)
+        let verdict = run_both(program, &input.framed, Feeding::Whole)
             .map_err(|fault| numbered("run", number, options.seed, &fault))?;
-        coverage.run(&verdict);
+        coverage.run("program", &verdict);
+    }
+    Ok(())
+}
+
+/// Runs the program on inputs of which each read gets a piece: short ones byte by byte,
+/// and the longest, with some that are too long, for the program and for a pipe.
+fn runs_in_pieces(program: &Path, options: &Options, coverage: &mut Coverage) -> Compared<()> {
+    let mut inputs = Inputs::new(options.seed);
+    let lengths = [0, 1, INPUT_BYTES - 1, INPUT_BYTES, INPUT_BYTES + 1, PIPE_BYTES, PIPE_BYTES + 1];
+    for number in 0..options.runs / 10 {
+        let mut framed = inputs.next_input().framed;
+        if let Some(length) = lengths.get(number) {
+            framed.resize(*length, 0);
+        }
+        let size = [1, 2, 3, 64, 500][number % 5].max(framed.len() / 500);
+        let verdict = run_both(program, &framed, Feeding::Pieces(size))
+            .map_err(|fault| numbered("run in pieces", number, options.seed, &fault))?;
+        coverage.run("program, in pieces", &verdict);
     }
     Ok(())
 }

@@ -1,7 +1,8 @@
-//! The comparison notices wrong sides.
+//! The comparison notices wrong sides and wrong programs.
 
 use compare::files::perform_both;
 use compare::judging::judge_both;
+use compare::program::{run_both, Feeding};
 use compare::proved::{Proved, Side};
 use generate::random::Random;
 use generate::writing::Task;
@@ -87,5 +88,17 @@ fn an_output_that_was_touched_is_found() {
         let task = Task::ReadBook { book: BOOK.to_vec(), room };
         assert!(perform_both(&Wrong::OutputTouched, &task, &mut random).is_err());
         assert!(perform_both(&Proved, &task, &mut random).is_ok());
+    }
+}
+
+#[test]
+fn a_program_that_reads_only_once_is_found() {
+    // Test programs lie in deps/, beside examples/.
+    let program = std::env::current_exe().unwrap().parent().unwrap().join("../examples/one_read");
+    let input = [&[0, 6], &BOOK[..], &CERTIFICATE].concat();
+    assert_eq!(run_both(&program, &input, Feeding::Whole).err(), None);
+    for size in 1..=input.len() {
+        let found = run_both(&program, &input, Feeding::Pieces(size)).is_err();
+        assert_eq!(found, size < input.len(), "pieces of {size}");
     }
 }

@@ -1,5 +1,6 @@
 //! What the operations answer.
 
+use crate::raw::Numbers;
 use std::fmt;
 
 /// What a refusal speaks of. Its number is the W of the program's line.
@@ -60,8 +61,9 @@ impl fmt::Display for Refusal {
 
 impl std::error::Error for Refusal {}
 
-/// What an accepted certificate shows: every call of the family, `line`'s left
-/// at the indices from `alpha` on, runs for ever; `k` is the closing's step.
+/// What an accepted certificate names: the family of calls is `line`'s left at the
+/// indices from `alpha` on, and `k` is the closing's step. The crate's page says what
+/// is known of such a call.
 #[derive(Clone, Copy, Debug, PartialEq, Eq, Hash)]
 pub struct Acceptance {
     pub line: u64,
@@ -92,9 +94,6 @@ impl fmt::Display for Verdict {
         }
     }
 }
-
-/// The five numbers of an answer.
-pub(crate) type Numbers = [u64; 5];
 
 /// Takes the numbers apart: what was found, or the refusal.
 pub(crate) fn told([kind, one, two, three, four]: Numbers) -> Result<[u64; 3], Refusal> {

@@ -1,13 +1,26 @@
-//! Judges certificates of endless rule sets.
+//! Judges certificates which say that calls of a rule book have derivations of every
+//! length.
 //!
-//! A rule book is a small logic program. A certificate claims that a family of
-//! calls of that program runs for ever, and says why. [`judge`] accepts exactly
-//! the certificates that meet the rules, ends on all input, and no call of an
-//! accepted family ever gets stuck: this is proved of the library that this crate
-//! links, not of this crate, which only passes slices on.
+//! A rule book is a small logic program. A certificate names a family of calls of
+//! that program, and says why they can go on. [`judge`] accepts exactly the
+//! certificates that meet the rules, and ends on all input. This, and what acceptance
+//! means, is proved of the library that this crate links, not of this crate, which
+//! only passes slices on.
+//!
+//! # What acceptance means
+//!
+//! For every number of steps, every call of the family (the named line's left, at an
+//! index from α on, its variables filled by any terms) has a derivation of that length
+//! by some choice of rules, in which each step replaces the first call by the calls of
+//! a rule so filled that its head is exactly that call. It does not mean that every
+//! choice of rules goes on: with the book `a. a :- b. a :- a.` a certificate for `a` is
+//! accepted, although `a` also succeeds at once by the first rule and gets stuck by the
+//! second.
+//!
+//! # Use
 //!
 //! ```
-//! // The book "a if a", and a certificate that `a` runs for ever.
+//! // The book "a if a", and a certificate for `a`.
 //! let book = [0x01, 0x00, 0x11, 0x40, 0x10, 0x00];
 //! let certificate = [0x01, 0x20, 0x14, 0, 0, 0x40, 0, 0, 0, 0, 0, 0];
 //! let mut work = vec![0; gearcinder::WORK_NUMBERS];
@@ -35,8 +48,9 @@
 mod answers;
 pub mod raw;
 
-use answers::{told, Numbers};
+use answers::told;
 pub use answers::{Acceptance, Place, Refusal, Verdict};
+use raw::Numbers;
 
 /// The judge refuses a work table that is shorter than this.
 pub const WORK_NUMBERS: usize = 8_192;

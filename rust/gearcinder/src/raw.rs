@@ -1,17 +1,19 @@
 //! The library's own five functions, over slices of numbers.
 //!
-//! Each answers by five numbers and returns 1. If fewer than five numbers are lent
-//! for the answer, nothing is done and 0 comes back. The five are 0 and what was
-//! found, or 1 and the refusal's number, W, A and B. What was found is, for
-//! [`judge`], the line, k, α and 0; for the others, the number of places filled and
-//! three zeros. The functions of the crate's root put this into types.
+//! Each answers by [`Numbers`]: 0 and what was found, or 1 and the refusal's number,
+//! W, A and B. What was found is, for [`judge`], the line, k, α and 0; for the
+//! others, the number of places filled and three zeros. The functions of the crate's
+//! root put this into types.
+
+/// An answer.
+pub type Numbers = [u64; 5];
 
 // SAFETY, for every call below: a slice crosses as its pointer and its length, the
-// library reads and writes nothing outside of the slices, and the borrows keep those
-// that it writes apart from all others.
+// answer as a pointer; the library reads and writes nothing outside of these, and the
+// borrows keep what it writes apart from all else.
 
 /// Judges a certificate over its rule book.
-pub fn judge(book: &[u8], certificate: &[u8], work: &mut [u64], answer: &mut [u64]) -> u64 {
+pub fn judge(book: &[u8], certificate: &[u8], work: &mut [u64], answer: &mut Numbers) {
     unsafe {
         c::gearcinder_judge(
             book.as_ptr(),
@@ -20,33 +22,20 @@ pub fn judge(book: &[u8], certificate: &[u8], work: &mut [u64], answer: &mut [u6
             certificate.len(),
             work.as_mut_ptr(),
             work.len(),
-            answer.as_mut_ptr(),
-            answer.len(),
+            answer,
         )
     }
 }
 
 /// Reads a book's bytes into a list of its fields.
-pub fn read_book(book: &[u8], out: &mut [u16], answer: &mut [u64]) -> u64 {
+pub fn read_book(book: &[u8], out: &mut [u16], answer: &mut Numbers) {
     unsafe {
-        c::gearcinder_read_book(
-            book.as_ptr(),
-            book.len(),
-            out.as_mut_ptr(),
-            out.len(),
-            answer.as_mut_ptr(),
-            answer.len(),
-        )
+        c::gearcinder_read_book(book.as_ptr(), book.len(), out.as_mut_ptr(), out.len(), answer)
     }
 }
 
 /// Reads a certificate's bytes, with its book's, into a list of its fields.
-pub fn read_certificate(
-    book: &[u8],
-    certificate: &[u8],
-    out: &mut [u16],
-    answer: &mut [u64],
-) -> u64 {
+pub fn read_certificate(book: &[u8], certificate: &[u8], out: &mut [u16], answer: &mut Numbers) {
     unsafe {
         c::gearcinder_read_certificate(
             book.as_ptr(),
@@ -55,28 +44,20 @@ pub fn read_certificate(
             certificate.len(),
             out.as_mut_ptr(),
             out.len(),
-            answer.as_mut_ptr(),
-            answer.len(),
+            answer,
         )
     }
 }
 
 /// Writes a list of a book's fields into its bytes.
-pub fn write_book(fields: &[u16], out: &mut [u8], answer: &mut [u64]) -> u64 {
+pub fn write_book(fields: &[u16], out: &mut [u8], answer: &mut Numbers) {
     unsafe {
-        c::gearcinder_write_book(
-            fields.as_ptr(),
-            fields.len(),
-            out.as_mut_ptr(),
-            out.len(),
-            answer.as_mut_ptr(),
-            answer.len(),
-        )
+        c::gearcinder_write_book(fields.as_ptr(), fields.len(), out.as_mut_ptr(), out.len(), answer)
     }
 }
 
 /// Writes a list of a certificate's fields, with its book's bytes, into its bytes.
-pub fn write_certificate(book: &[u8], fields: &[u16], out: &mut [u8], answer: &mut [u64]) -> u64 {
+pub fn write_certificate(book: &[u8], fields: &[u16], out: &mut [u8], answer: &mut Numbers) {
     unsafe {
         c::gearcinder_write_certificate(
             book.as_ptr(),
@@ -85,14 +66,15 @@ pub fn write_certificate(book: &[u8], fields: &[u16], out: &mut [u8], answer: &m
             fields.len(),
             out.as_mut_ptr(),
             out.len(),
-            answer.as_mut_ptr(),
-            answer.len(),
+            answer,
         )
     }
 }
 
 /// The functions as C sees them (include/gearcinder.h).
 mod c {
+    use super::Numbers;
+
     #[link(name = "embed", kind = "static")]
     extern "C" {
         pub fn gearcinder_judge(
@@ -102,18 +84,16 @@ mod c {
             certificate_length: usize,
             work: *mut u64,
             work_length: usize,
-            answer: *mut u64,
-            answer_length: usize,
-        ) -> u64;
+            answer: *mut Numbers,
+        );
 
         pub fn gearcinder_read_book(
             book: *const u8,
             book_length: usize,
             out: *mut u16,
             out_length: usize,
-            answer: *mut u64,
-            answer_length: usize,
-        ) -> u64;
+            answer: *mut Numbers,
+        );
 
         pub fn gearcinder_read_certificate(
             book: *const u8,
@@ -122,18 +102,16 @@ mod c {
             certificate_length: usize,
             out: *mut u16,
             out_length: usize,
-            answer: *mut u64,
-            answer_length: usize,
-        ) -> u64;
+            answer: *mut Numbers,
+        );
 
         pub fn gearcinder_write_book(
             fields: *const u16,
             fields_length: usize,
             out: *mut u8,
             out_length: usize,
-            answer: *mut u64,
-            answer_length: usize,
-        ) -> u64;
+            answer: *mut Numbers,
+        );
 
         pub fn gearcinder_write_certificate(
             book: *const u8,
@@ -142,8 +120,7 @@ mod c {
             fields_length: usize,
             out: *mut u8,
             out_length: usize,
-            answer: *mut u64,
-            answer_length: usize,
-        ) -> u64;
+            answer: *mut Numbers,
+        );
     }
 }

@@ -19,6 +19,20 @@ fn an_accepted_certificate() {
     assert_eq!(work, [0; WORK_NUMBERS]);
 }
 
+/// The example of what acceptance means: some choice of rules goes on, not every one.
+#[test]
+fn a_call_that_can_also_end_or_get_stuck() {
+    let book = text::pack_book_text("symbols a/0, b/0. a. a :- b. a :- a.").unwrap();
+    let certificate = |rule: u8| {
+        let line = format!("line 0: unfold a -> a by rule {rule} stop 1 {{}} here");
+        let text = format!("symbols a/0, b/0. {line} closing line 0 k 0 alpha 0 {{}}");
+        text::pack_certificate_text(&book, &text).unwrap()
+    };
+    let mut work = [7; WORK_NUMBERS];
+    assert_eq!(judge(&book, &certificate(2), &mut work).to_string(), "accept 0 0 0");
+    assert_eq!(judge(&book, &certificate(1), &mut work).to_string(), "refuse 12 2 0 15");
+}
+
 #[test]
 fn a_refused_certificate() {
     let mut work = [7; WORK_NUMBERS];

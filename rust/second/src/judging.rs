@@ -20,34 +20,34 @@ type Checked = Result<(), Refusal>;
 /// A term or the empty mark (`None`).
 type Side = Option<Term>;
 
-/// Judges. This judge needs no work table, but keeps the promise about it: "The
-/// work table is all zeros after every call but refusal 1, which doesn't touch
-/// it."
+/// Judges a certificate over its book.
 pub fn judge(book: &[u8], certificate: &[u8], work: &mut [u64]) -> Verdict {
-    if work.len() < WORK_NUMBERS {
-        return Verdict::Refused(Refusal::placeless(1, NEITHER));
-    }
-    work.fill(0);
-    match judged(book, certificate) {
-        Ok(closing) => {
-            Verdict::Accepted { line: u64::from(closing.line), k: closing.k, alpha: closing.alpha }
-        }
-        Err(refusal) => Verdict::Refused(refusal),
-    }
+    over_table(work, || judged(book, certificate))
 }
 
 /// The program's framing: "two bytes, the book's length, high byte first, then
 /// the book; the certificate begins at the next byte after the book and takes
 /// the rest".
 pub fn judge_input(input: &[u8], work: &mut [u64]) -> Verdict {
-    match framed(input) {
-        Ok((book, certificate)) => judge(book, certificate, work),
-        Err(refusal) => {
-            if work.len() >= WORK_NUMBERS {
-                work.fill(0);
-            }
-            Verdict::Refused(refusal)
+    over_table(work, || {
+        let (book, certificate) = framed(input)?;
+        judged(book, certificate)
+    })
+}
+
+/// "Order: 1; ..", before the framing too. This judge needs no work table, but
+/// keeps the promise about it: "The work table is all zeros after every call but
+/// refusal 1, which doesn't touch it."
+fn over_table(work: &mut [u64], judged: impl FnOnce() -> Result<Closing, Refusal>) -> Verdict {
+    if work.len() < WORK_NUMBERS {
+        return Verdict::Refused(Refusal::placeless(1, NEITHER));
+    }
+    work.fill(0);
+    match judged() {
+        Ok(closing) => {
+            Verdict::Accepted { line: u64::from(closing.line), k: closing.k, alpha: closing.alpha }
         }
+        Err(refusal) => Verdict::Refused(refusal),
     }
 }
 

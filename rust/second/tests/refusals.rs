@@ -173,18 +173,14 @@ fn refusal_2_written_certificate() {
 #[test]
 fn refusal_2_and_3_of_the_program() {
     let mut work = work();
-    assert_eq!(judge_input(&[], &mut work), refused(3, 4, 0, 0));
-    assert!(work.iter().all(|number| *number == 0));
     assert_eq!(judge_input(&[0], &mut work), refused(3, 4, 0, 0));
     assert_eq!(judge_input(&[0, 0], &mut work), refused(3, 0, 0, 0));
     assert_eq!(judge_input(&[0, 1], &mut work), refused(3, 4, 0, 0));
     assert_eq!(judge_input(&[0, 1, 0], &mut work), refused(3, 0, 8, 0));
     assert_eq!(judge_input(&[1, 0, 0], &mut work), refused(3, 4, 0, 0));
-    // 2 before 3; both before what the judge gives.
+    // 2 before 3; both before what the files get.
     let long = vec![255; 49_155];
     assert_eq!(judge_input(&long, &mut work), refused(2, 4, 0, 0));
-    assert_eq!(judge_input(&long, &mut []), refused(2, 4, 0, 0));
-    assert_eq!(judge_input(&[0], &mut []), refused(3, 4, 0, 0));
     assert_eq!(judge_input(&long[..49_154], &mut work), refused(3, 4, 0, 0));
     let mut full = vec![0; 49_154];
     full[0] = 0x40;
@@ -194,7 +190,27 @@ fn refusal_2_and_3_of_the_program() {
     full[0] = 0x3F;
     full[1] = 0xFF;
     assert_eq!(judge_input(&full, &mut work), refused(2, 1, 0, 0));
-    assert_eq!(judge_input(&[0, 2, 0, 0, 0, 0], &mut []), refused(1, 4, 0, 0));
+}
+
+#[test]
+fn the_programs_work_table() {
+    // Too long, no length, too short, and two files of which the second is refused.
+    let inputs = [&[255; 49_155][..], &[0], &[0, 1], &[0, 2, 0, 0, 0, 0]];
+    for (input, number) in inputs.into_iter().zip([2, 3, 3, 4]) {
+        // 1 before everything else, and then the table is not touched.
+        for length in [0, 1, 8_191] {
+            let mut work = vec![7; length];
+            assert_eq!(judge_input(input, &mut work), refused(1, 4, 0, 0));
+            assert_eq!(work, vec![7; length]);
+        }
+        // All zeros after every other answer.
+        for length in [8_192, 8_200] {
+            let mut work = vec![7; length];
+            let Verdict::Refused(refusal) = judge_input(input, &mut work) else { panic!() };
+            assert_eq!(refusal.number, number);
+            assert_eq!(work, vec![0; length]);
+        }
+    }
 }
 
 // ---------------------------------------------------------------- 3

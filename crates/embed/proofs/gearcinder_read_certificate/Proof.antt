@@ -1,34 +1,21 @@
--- `embed::gearcinder_read_certificate` meets its contract: nothing is done, or what `layout::read_certificate` answers is told.
-use Rattle.embed.proofs.Telling.{undone, told-whole}
+-- `embed::gearcinder_read_certificate` meets its contract: the numbers of what `layout::read_certificate` answers.
+use Rattle.embed.proofs.Telling.{tells-file}
 use borrow.Author.Needs.{needs}
 use Rattle.embed.proofs.gearcinder_read_certificate.Statement.{statement}
 use Rattle.embed.proofs.gearcinder_read_certificate.Tie as tie
 
-returns : tie.Need-returns
-returns c = undone _ _ _ _ (c .if1 .taken)
-
 read-certificate-requires : tie.Need-read-certificate-requires
 read-certificate-requires c κs = search needs
 
-tell-answer-requires : tie.Need-tell-answer-requires
-tell-answer-requires c κs = search needs
+answer-numbers-requires : tie.Need-answer-numbers-requires
+answer-numbers-requires c κs = search needs
 
 same-length : tie.Need-same-length
 same-length c = search needs
 
-same-length-2 : tie.Need-same-length-2
-same-length-2 c = search needs
-
-returns-2 : tie.Need-returns-2
-returns-2 c = told-whole _ _ _ _ _ (c .before .before .before .before .before .before .before .before .if1 .left) (c .before .before .before .before .before .before .read-certificate .ensures) (c .before .before .tell-answer .ensures)
+returns : tie.Need-returns
+returns c = tells-file _ (c .before .before .before .read-certificate .ensures .0) (c .before .before .before .read-certificate .ensures .1) (c .answer-numbers .ensures)
 
 pub gearcinder-read-certificate-spec : {M : Type 1} → statement M
 gearcinder-read-certificate-spec =
-    tie.close
-    (tie.spec
-    returns
-    read-certificate-requires
-    tell-answer-requires
-    same-length
-    same-length-2
-    returns-2)
+    tie.close (tie.spec read-certificate-requires answer-numbers-requires same-length returns)

@@ -1,28 +1,21 @@
--- `embed::gearcinder_write_book` meets its contract: nothing is done, or what `layout::write_book` answers is told.
-use Rattle.embed.proofs.Telling.{undone, told-whole}
+-- `embed::gearcinder_write_book` meets its contract: the numbers of what `layout::write_book` answers.
+use Rattle.embed.proofs.Telling.{tells-file}
 use borrow.Author.Needs.{needs}
 use Rattle.embed.proofs.gearcinder_write_book.Statement.{statement}
 use Rattle.embed.proofs.gearcinder_write_book.Tie as tie
 
-returns : tie.Need-returns
-returns c = undone _ _ _ _ (c .if1 .taken)
-
 write-book-requires : tie.Need-write-book-requires
 write-book-requires c κs = search needs
 
-tell-answer-requires : tie.Need-tell-answer-requires
-tell-answer-requires c κs = search needs
+answer-numbers-requires : tie.Need-answer-numbers-requires
+answer-numbers-requires c κs = search needs
 
 same-length : tie.Need-same-length
 same-length c = search needs
 
-same-length-2 : tie.Need-same-length-2
-same-length-2 c = search needs
-
-returns-2 : tie.Need-returns-2
-returns-2 c = told-whole _ _ _ _ _ (c .before .before .before .before .before .before .before .before .if1 .left) (c .before .before .before .before .before .before .write-book .ensures) (c .before .before .tell-answer .ensures)
+returns : tie.Need-returns
+returns c = tells-file _ (c .before .before .before .write-book .ensures .0) (c .before .before .before .write-book .ensures .1) (c .answer-numbers .ensures)
 
 pub gearcinder-write-book-spec : {M : Type 1} → statement M
 gearcinder-write-book-spec =
-    tie.close
-    (tie.spec returns write-book-requires tell-answer-requires same-length same-length-2 returns-2)
+    tie.close (tie.spec write-book-requires answer-numbers-requires same-length returns)
