@@ -10,7 +10,8 @@ use Rattle.patterns.specs.Judge.{Verdict}
 use Rattle.layout.specs.declared.Answer.{Answer}
 use Rattle.layout.specs.declared.Answer.the-variants.{Filled, Refused}
 use Rattle.layout.specs.declared.Refusal.{Refusal as Fault}
-use Rattle.layout.specs.Answers.{Given, Told, told, output, w-of, paper-refusal, paper}
+use Rattle.layout.specs.Answers.{Given, Told, w-of, paper-refusal, paper}
+use Rattle.layout.specs.Promises.{Answers}
 use Rattle.verdicts.specs.declared.Acceptance.{Acceptance}
 use Rattle.verdicts.specs.declared.Verdict.{Verdict as Ruling}
 use Rattle.verdicts.specs.declared.Verdict.the-variants.{Accepted, Refused as Denied}
@@ -79,12 +80,12 @@ module _ (w : ℕ) (g : Given) (out answer : List ℕ) where
   undone h = (not-lent answer _ _ h, (not-lent answer _ _ h, not-lent answer _ _ h))
 
   pub told-whole : {out₁ answer₁ : List ℕ} (said : Answer) → 5 ≤ length answer
-      → (paper said ≡ told w g (length out)) × (out₁ ≡ output g out) → answer₁ ≡ answer-told (paper said) answer
+      → Answers w g out said out₁ → answer₁ ≡ answer-told (paper said) answer
       → Exported w g 1 out out₁ answer answer₁
   unfolding done output-after answer-after
   told-whole said h p s = (
     lent answer _ _ h,
-    (p .1 ∙ lent answer _ _ h, s ∙ ap (λ (t : Told). answer-told t answer) (p .0) ∙ lent answer _ _ h),
+    (p .filled ∙ lent answer _ _ h, s ∙ ap (λ (t : Told). answer-told t answer) (p .answered) ∙ lent answer _ _ h),
   )
 
 module _ (v : Verdict Pace) (work answer : List ℕ) where

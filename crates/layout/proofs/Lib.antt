@@ -6,5 +6,6 @@ pub mod Giving
 pub mod Besides
 pub mod RoundTrips
 pub mod OneAnswer
+pub mod CallTrips
 pub mod OneFile
 pub mod Table

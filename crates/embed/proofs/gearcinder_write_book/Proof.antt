@@ -20,7 +20,7 @@ same-length-2 : tie.Need-same-length-2
 same-length-2 c = search needs
 
 returns-2 : tie.Need-returns-2
-returns-2 c = told-whole _ _ _ _ _ (c .before .before .before .before .before .before .before .before .if1 .left) (c .before .before .before .before .before .before .write-book .ensures) (c .before .before .tell-answer .ensures)
+returns-2 c = told-whole _ _ _ _ _ (c .before .before .before .before .before .before .before .before .if1 .left) (c .before .before .before .before .before .before .write-book .ensures .answers) (c .before .before .tell-answer .ensures)
 
 pub gearcinder-write-book-spec : {M : Type 1} → statement M
 gearcinder-write-book-spec =
