@@ -6,8 +6,8 @@ pub mod Turns
 pub mod Printed
 pub mod Layers
 pub mod Demands
-pub mod WorkTables
 pub mod Framing
+pub mod WorkTables
 pub mod OneVerdict
 pub mod OneLine
 pub mod Compute

@@ -20,7 +20,7 @@ same-length-2 : tie.Need-same-length-2
 same-length-2 c = search needs
 
 returns-2 : tie.Need-returns-2
-returns-2 c = judged-whole _ _ _ _ (c .before .before .before .before .before .before .before .before .if1 .left) (c .before .before .before .before .before .before .judge .ensures) (c .before .before .tell-verdict .ensures)
+returns-2 c = judged-whole _ _ _ _ (c .before .before .before .before .before .before .before .before .if1 .left) (c .before .before .before .before .before .before .judge .ensures .answered, c .before .before .before .before .before .before .judge .ensures .cleared) (c .before .before .tell-verdict .ensures)
 
 pub gearcinder-judge-spec : {M : Type 1} → statement M
 gearcinder-judge-spec =
