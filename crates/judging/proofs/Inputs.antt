@@ -1,6 +1,6 @@
--- The program's input: the work table as a call leaves it, and what is answered for each way of the framing.
+-- The work table as a call leaves it, and the two files that the program's input hands over.
 use Prim.Native.Nat.{ℕ, _+_, _-_, _≤_, _<_}
-use mathlib.Core.Path.{_≡_, refl, sym, _∙_, ap}
+use mathlib.Core.Path.{_≡_, refl, sym, _∙_, ap, ap₂}
 use mathlib.Core.List.{List}
 use native.Mathlib.Omega.{arith}
 use borrow.Author.Tests.{lt-ltb, le-ltb, ltb-true, ltb-false}
@@ -9,11 +9,11 @@ use mathlib.Core.Bool.{Bool, true, false}
 use Rattle.table.specs.Answer.{Says}
 use lib.ListN.{length, take, drop, replicate, length-drop}
 use lib.Seq.{take-all}
-use Rattle.verdicts.specs.declared.Verdict.{Verdict as Ruling}
-use Rattle.verdicts.specs.Verdicts.{paper}
-use Rattle.verdicts.specs.Judging.{judging, work-after}
-use Rattle.verdicts.specs.Program.{book-length, unframed, judging-parts, judging-input}
-use Rattle.verdicts.proofs.Framing.{input-long, input-cut, input-whole}
+use Rattle.patterns.specs.First.{Pace}
+use Rattle.patterns.specs.Judge.{Verdict}
+use Rattle.verdicts.specs.Judging.{judging-files, work-after}
+use Rattle.verdicts.specs.Program.{book-length, judging-parts, judging-framed}
+use Rattle.verdicts.proofs.Framing.{input-whole}
 
 -- ---- the work table
 
@@ -44,30 +44,13 @@ module _ (work : List ℕ) where
 -- ---- the framing
 
 -- what `&input[2..end]` and `&input[end..]` hand over is the book and the certificate
-handed-parts : (n : ℕ) (input : List ℕ) (size : ℕ)
-    → judging (take (2 + n - 2) (drop 2 input)) (take (length input - (2 + n)) (drop (2 + n) input)) size
-    ≡ judging-parts n input size
-handed-parts n input size =
-    let m : 2 + n - 2 ≡ n = omega arith in
+pub handed-parts : (input : List ℕ) {n : ℕ} {v : Verdict Pace} → n ≡ book-length input → length input ≤ 49154 → 2 + n ≤ length input
+    → v ≡ judging-files (take (2 + n - 2) (drop 2 input)) (take (length input - (2 + n)) (drop (2 + n) input))
+    → v ≡ judging-framed input
+handed-parts input {n} m k h e =
+    let back : 2 + n - 2 ≡ n = omega arith in
     let all = take-all (length input - (2 + n)) (drop (2 + n) input) (omega (arith, length-drop (2 + n) input)) in
-    rw (m, all)
-
--- the two promises of the judge of an input
-abbrev pub Judged : List ℕ → List ℕ → Ruling → List ℕ → Type 0
-Judged input work r after = (paper r ≡ judging-input input (length work)) × (after ≡ work-after work)
-
-module _ (input work : List ℕ) (r : Ruling) {after : List ℕ} where
-  pub long-input : 49154 < length input → (paper r ≡ unframed 2) × (after ≡ work-after work) → Judged input work r after
-  long-input h e = (e .0 ∙ sym (input-long input (length work) h), e .1)
-
-  pub cut-input : length input ≤ 49154 → length input < 2 + book-length input
-      → (paper r ≡ unframed 3) × (after ≡ work-after work) → Judged input work r after
-  cut-input k h e = (e .0 ∙ sym (input-cut input (length work) k h), e .1)
-
-  pub whole-input : {n : ℕ} → n ≡ book-length input → length input ≤ 49154 → 2 + n ≤ length input
-      → (paper r ≡ judging (take (2 + n - 2) (drop 2 input)) (take (length input - (2 + n)) (drop (2 + n) input)) (length work))
-      × (after ≡ work-after work)
-      → Judged input work r after
-  whole-input {n} m k h e =
-      let parts = ap (λ (p : ℕ). judging-parts p input (length work)) m in
-      (e .0 ∙ handed-parts n input (length work) ∙ parts ∙ sym (input-whole input (length work) k (omega arith)), e .1)
+    e
+    ∙ ap₂ judging-files (ap (λ (p : ℕ). take p (drop 2 input)) back) all
+    ∙ ap (λ (p : ℕ). judging-parts p input) m
+    ∙ sym (input-whole input k (omega arith))

@@ -9,7 +9,6 @@ use Rattle.bits.specs.Packed.{width, Reads}
 use Rattle.patterns.specs.Refusal.{book-place, certificate-place}
 use Rattle.patterns.specs.First.{Exp, Pair, Pace}
 use Rattle.patterns.specs.Certificate.{Certificate}
-use Rattle.patterns.specs.Judge.{judge}
 use Rattle.fields.specs.Grammar.{Grammar}
 use Rattle.fields.specs.Spells.{Spells}
 use Rattle.fields.proofs.Found.{trace-reads, trace-room, trace-spells}

@@ -1,49 +1,91 @@
--- What `judge` promises, over its own answer and the bytes that it was given: demand 2, demand 3, and that no other answer fits.
-use Prim.Native.Nat.{ℕ}
-use mathlib.Core.Path.{_≡_, sym}
+-- What `judge` and `judge_input` promise, over their own answers: demand 2, demand 3, the work table, and that no other answer fits.
+-- `Judged` and `JudgedInput` are their contracts.
+use mathlib.Core.Logic.{_↔_, _≢_}
+use mathlib.Core.Path.{_≡_, sym, _∙_, ap}
 use mathlib.Core.List.{List}
-use lib.ListN.{length}
-use Rattle.bits.specs.Bits.{Bytes}
+use Prim.Native.Nat.{ℕ}
+use lib.ListN.{length, replicate}
+use Rattle.patterns.specs.First.{Pace}
+use Rattle.patterns.specs.Judge.{Verdict}
 use Rattle.layout.specs.declared.Refusal.{Refusal as Fault}
 use Rattle.layout.specs.Answers.{paper-refusal}
 use Rattle.verdicts.specs.Verdicts.{paper-pace, paper}
-use Rattle.verdicts.specs.Judging.{judging, work-after}
+use Rattle.verdicts.specs.Judging.{refusal-one}
 use Rattle.verdicts.specs.Demands.{Acceptable, FirstRefusal, NeverStuck}
+use Rattle.verdicts.specs.Program.{framing, InputVerdict, AcceptableInput}
 use Rattle.verdicts.specs.declared.Acceptance.{Acceptance}
-use Rattle.verdicts.specs.declared.Verdict.{Verdict}
+use Rattle.verdicts.specs.declared.Verdict.{Verdict as Ruling}
 use Rattle.verdicts.specs.declared.Verdict.the-variants.{Accepted, Refused}
 use Rattle.verdicts.proofs.Demands.{accepts-exactly-when, refuses-exactly-when, accepted-never-gets-stuck}
-use Rattle.verdicts.proofs.OneVerdict.{one-verdict}
+use Rattle.verdicts.proofs.Framing.{input-exactly, input-accepted-exactly-when, accepted-input-never-gets-stuck}
+use Rattle.verdicts.proofs.WorkTables.{work-kept, work-cleared, input-work-kept, input-work-cleared}
+use Rattle.verdicts.proofs.OneVerdict.{paper-tells, one-ruling}
+use Rattle.judging.specs.Judged.{Judged, JudgedInput}
 
--- `judge` was called with a book, a certificate and a work table, answered r and left the table as `after`: its contract
-pub record Judged (book certificate work : List ℕ) (r : Verdict) (after : List ℕ) : Type 0 where
-  pub answered : paper r ≡ judging book certificate (length work)
-  pub cleared : after ≡ work-after work
+-- what holds exactly for a verdict in 01's numbers holds exactly for the answer with these numbers
+told-as : {P : Type 0} {v : Verdict Pace} (r s : Ruling) → paper r ≡ v → (v ≡ paper s) ↔ P → (r ≡ s) ↔ P
+told-as r s e h = (λ q. h .0 (sym e ∙ ap paper q), λ p. paper-tells r s (e ∙ h .1 p))
 
-module _ (book certificate : List ℕ) (b : Bytes book) (c : Bytes certificate) (work after : List ℕ) where
-  -- demand 2: it accepts exactly what is acceptable, with the closing's own line, k and α
-  pub accepts : (a : Acceptance) → Judged book certificate work (Accepted a) after
-      → Acceptable book certificate (length work) (a .line) (paper-pace a)
+-- ---- `judge`
+
+module _ {book certificate work : List ℕ} {r : Ruling} {after : List ℕ} (j : Judged book certificate work r after) where
+  -- Demand 2: it accepts exactly what is acceptable, with the closing's own line, k and α.
+  pub accepts : (a : Acceptance) → (r ≡ Accepted a) ↔ Acceptable book certificate (length work) (a .line) (paper-pace a)
   unfolding paper
-  accepts a j = accepts-exactly-when book certificate b c (length work) (a .line) (paper-pace a) .0 (sym (j .answered))
+  accepts a =
+      told-as r (Accepted a) (j .answered)
+      (accepts-exactly-when book certificate (j .book-bytes) (j .bytes) (length work) (a .line) (paper-pace a))
 
-  pub accepted : (a : Acceptance) → Acceptable book certificate (length work) (a .line) (paper-pace a) → after ≡ work-after work
-      → Judged book certificate work (Accepted a) after
+  -- It gives exactly the refusal of the first rule broken.
+  pub refuses : (f : Fault) → (r ≡ Refused f) ↔ FirstRefusal book certificate (length work) (paper-refusal f)
   unfolding paper
-  accepted a h w = record { answered = sym (accepts-exactly-when book certificate b c (length work) (a .line) (paper-pace a) .1 h); cleared = w }
+  refuses f =
+      told-as r (Refused f) (j .answered)
+      (refuses-exactly-when book certificate (j .book-bytes) (j .bytes) (length work) (paper-refusal f))
 
-  -- and its refusal names the first rule broken
-  pub refuses : (r : Fault) → Judged book certificate work (Refused r) after → FirstRefusal book certificate (length work) (paper-refusal r)
-  unfolding paper
-  refuses r j = refuses-exactly-when book certificate b c (length work) (paper-refusal r) .0 (sym (j .answered))
-
-  -- demand 3: if it accepts, no call of the accepted family gets stuck
-  pub never-stuck : (a : Acceptance) → Judged book certificate work (Accepted a) after → NeverStuck book certificate (a .line) (a .alpha)
+  -- Demand 3: if it accepts, no call of the accepted family gets stuck.
+  pub never-stuck : (a : Acceptance) → r ≡ Accepted a → NeverStuck book certificate (a .line) (a .alpha)
   unfolding paper paper-pace
-  never-stuck a j = accepted-never-gets-stuck book certificate b c (length work) (a .line) (a .k) (a .alpha) (sym (j .answered))
+  never-stuck a e =
+      accepted-never-gets-stuck book certificate (j .book-bytes) (j .bytes) (length work) (a .line) (a .k) (a .alpha)
+      (sym (j .answered) ∙ ap paper e)
 
--- no second verdict and no second work table fit the contract
-pub one-answer : (book certificate work : List ℕ) (r s : Verdict) (after other : List ℕ) → Judged book certificate work r after
-    → Judged book certificate work s other → (r ≡ s) × (after ≡ other)
-one-answer book certificate work r s after other j k =
-    one-verdict book certificate work r s after other (j .answered, j .cleared) (k .answered, k .cleared)
+  -- Refusal 1 does not touch the work table, and after every other answer it is all zeros.
+  pub table-kept : paper r ≡ refusal-one → after ≡ work
+  table-kept e = j .cleared ∙ work-kept book certificate work (sym (j .answered) ∙ e)
+
+  pub table-cleared : paper r ≢ refusal-one → after ≡ replicate (length work) 0
+  table-cleared n = j .cleared ∙ work-cleared book certificate work (λ e. n (j .answered ∙ e))
+
+  -- No second verdict and no second work table fit the contract.
+  pub one-answer : {s : Ruling} {other : List ℕ} → Judged book certificate work s other → (r ≡ s) × (after ≡ other)
+  one-answer {s} k = one-ruling r s (j .answered, j .cleared) (k .answered, k .cleared)
+
+-- ---- `judge_input`
+
+module _ {input work : List ℕ} {r : Ruling} {after : List ℕ} (j : JudgedInput input work r after) where
+  -- It answers 1 for a short table, then 2 for a long input, 3 for one that is cut short, and else what `judge` does for its parts.
+  pub answers-input : (s : Ruling) → (r ≡ s) ↔ InputVerdict input (length work) (paper s)
+  answers-input s = told-as r s (j .answered) (input-exactly input (j .bytes) (length work) (paper s))
+
+  pub accepts-input : (a : Acceptance) → (r ≡ Accepted a) ↔ AcceptableInput input (length work) (a .line) (paper-pace a)
+  unfolding paper
+  accepts-input a =
+      told-as r (Accepted a) (j .answered)
+      (input-accepted-exactly-when input (j .bytes) (length work) (a .line) (paper-pace a))
+
+  pub never-stuck-input : (a : Acceptance) → r ≡ Accepted a
+      → (book : List ℕ) × (certificate : List ℕ) × (input ≡ framing book certificate) × NeverStuck book certificate (a .line) (a .alpha)
+  unfolding paper paper-pace
+  never-stuck-input a e =
+      accepted-input-never-gets-stuck input (j .bytes) (length work) (a .line) (a .k) (a .alpha)
+      (sym (j .answered) ∙ ap paper e)
+
+  pub input-table-kept : paper r ≡ refusal-one → after ≡ work
+  input-table-kept e = j .cleared ∙ input-work-kept input work (sym (j .answered) ∙ e)
+
+  pub input-table-cleared : paper r ≢ refusal-one → after ≡ replicate (length work) 0
+  input-table-cleared n = j .cleared ∙ input-work-cleared input work (λ e. n (j .answered ∙ e))
+
+  pub one-input-answer : {s : Ruling} {other : List ℕ} → JudgedInput input work s other → (r ≡ s) × (after ≡ other)
+  one-input-answer {s} k = one-ruling r s (j .answered, j .cleared) (k .answered, k .cleared)

@@ -5,15 +5,16 @@ use layout::Refusal;
 use verdicts::Verdict;
 ghost use mathlib.Core.Path.{_≡_};
 ghost use Prim.Native.Nat.{_≤_, _<_};
-ghost use lib.ListN.{length};
+ghost use lib.ListN.{length, replicate};
 ghost use Rattle.table.specs.Answer.{Says};
 ghost use Rattle.layout.specs.Files.{refusal-at};
 ghost use Rattle.layout.specs.Answers.{w-of};
 ghost use Rattle.layout.specs.Openings.{Beside};
 ghost use Rattle.patterns.specs.Judge.{refuse};
 ghost use Rattle.verdicts.specs.Verdicts.{paper};
-ghost use Rattle.verdicts.specs.Judging.{judging-certificate, judging-files, judging, work-after};
-ghost use Rattle.verdicts.specs.Program.{book-length, unframed, judging-input};
+ghost use Rattle.verdicts.specs.Judging.{judging-certificate, judging-files, refusal-one};
+ghost use Rattle.verdicts.specs.Program.{book-length, judging-framed};
+ghost use Rattle.judging.specs.Judged.{Judged, JudgedInput};
 
 // A refusal that names no place in a file.
 fn refused(number: u16, place: Place) -> Verdict
@@ -65,36 +66,29 @@ fn is_short(work: &[u64]) -> bool
     work.len() < 8192
 }
 
-// Judges a certificate over its book.
-pub fn judge(book: &[u8], certificate: &[u8], work: &mut [u64]) -> Verdict
-    ensures answered { λ r. ⌜ paper r ≡ judging (now (book .entry)) (now (certificate .entry)) (length (now (work .entry))) ⌝ }
-    ensures cleared { λ _. ⌜ now (work .exit) ≡ work-after (now (work .entry)) ⌝ }
+// Refusal 1. The work table is not touched.
+fn short_table() -> Verdict
+    ensures { λ r. ⌜ paper r ≡ refusal-one ⌝ }
 {
-    if is_short(work) {
-        return refused(1, Place::Neither);
-    }
-    let v = judge_files(book, certificate, work);
+    refused(1, Place::Neither)
+}
+
+// The verdict, with all numbers of the work table set to 0.
+fn cleared(v: Verdict, work: &mut [u64]) -> Verdict
+    ensures { λ r. ⌜ (r ≡ v) × (now (work .exit) ≡ replicate (length (now (work .entry))) 0) ⌝ }
+{
     table::clear(work);
     v
 }
 
-// The work table as every call leaves it: all zeros, or as it was where it has fewer than 8,192 numbers.
-fn leave(work: &mut [u64])
-    ensures { λ _. ⌜ now (work .exit) ≡ work-after (now (work .entry)) ⌝ }
+// Judges a certificate over its book.
+pub fn judge(book: &[u8], certificate: &[u8], work: &mut [u64]) -> Verdict
+    ensures { λ r. ⌜ Judged (now (book .entry)) (now (certificate .entry)) (now (work .entry)) r (now (work .exit)) ⌝ }
 {
     if is_short(work) {
-        return;
+        return short_table();
     }
-    table::clear(work);
-}
-
-// A refusal of the framing, which speaks of neither file.
-fn unframed(number: u16, work: &mut [u64]) -> Verdict
-    ensures answered { λ r. ⌜ paper r ≡ unframed number ⌝ }
-    ensures cleared { λ _. ⌜ now (work .exit) ≡ work-after (now (work .entry)) ⌝ }
-{
-    leave(work);
-    refused(number, Place::Neither)
+    cleared(judge_files(book, certificate, work), work)
 }
 
 // The book's length, from the input's first two bytes.
@@ -105,20 +99,31 @@ fn book_length(input: &[u8]) -> usize
     256 * (input[0] as usize) + input[1] as usize
 }
 
-// Judges the book and the certificate that the program's input holds.
-pub fn judge_input(input: &[u8], work: &mut [u64]) -> Verdict
-    ensures answered { λ r. ⌜ paper r ≡ judging-input (now (input .entry)) (length (now (work .entry))) ⌝ }
-    ensures cleared { λ _. ⌜ now (work .exit) ≡ work-after (now (work .entry)) ⌝ }
+// The framing's refusals, which speak of neither file, then both files that the input holds.
+fn judge_framed(input: &[u8], work: &mut [u64]) -> Verdict
+    requires { ⌜ 8192 ≤ length (now work) ⌝ }
+    ensures answered { λ r. ⌜ paper r ≡ judging-framed (now (input .entry)) ⌝ }
+    ensures lent { λ _. ⌜ length (now (work .exit)) ≡ length (now (work .entry)) ⌝ }
 {
     if input.len() > 49154 {
-        return unframed(2, work);
+        return refused(2, Place::Neither);
     }
     if input.len() < 2 {
-        return unframed(3, work);
+        return refused(3, Place::Neither);
     }
     let end = 2 + book_length(input);
     if input.len() < end {
-        return unframed(3, work);
+        return refused(3, Place::Neither);
     }
-    judge(&input[2..end], &input[end..], work)
+    judge_files(&input[2..end], &input[end..], work)
+}
+
+// Judges the book and the certificate that the program's input holds.
+pub fn judge_input(input: &[u8], work: &mut [u64]) -> Verdict
+    ensures { λ r. ⌜ JudgedInput (now (input .entry)) (now (work .entry)) r (now (work .exit)) ⌝ }
+{
+    if is_short(work) {
+        return short_table();
+    }
+    cleared(judge_framed(input, work), work)
 }

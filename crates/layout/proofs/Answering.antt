@@ -1,12 +1,10 @@
 -- What the code answers, by what reading or writing gives.
 use Prim.Native.Nat.{ℕ, _<_, _≤_}
 use mathlib.Core.Path.{_≡_, refl, sym, _∙_, ap}
-use mathlib.Core.List.{List, _++_}
-use mathlib.Core.Bool.{cond}
+use mathlib.Core.List.{List, [], _∷_, _++_}
 use native.Mathlib.Omega.{arith}
 use borrow.Author.Tests.{lt-ltb, le-ltb}
 use lib.ListN.{length, drop}
-use lib.Dec.{ltb}
 use Rattle.patterns.specs.Refusal.{Refusal}
 use Rattle.layout.specs.declared.Answer.{Answer}
 use Rattle.layout.specs.declared.Answer.the-variants.{Filled, Refused}
@@ -14,35 +12,51 @@ use Rattle.layout.specs.declared.Opening.{Opening}
 use Rattle.layout.specs.declared.Opening.the-variants.{Open, Shut}
 use Rattle.layout.specs.declared.Refusal.{Refusal as Fault}
 use Rattle.layout.specs.Files.{Opened, good, bad, refusal-at}
-use Rattle.layout.specs.Answers.{Given, gives, refuses, Told, filled-with, refused-with, told, output, paper-refusal, paper}
-use Rattle.layout.specs.Openings.{Sight, sees, shut, sight, seen}
+use Rattle.layout.specs.Answers.{Given, gives, refuses, filled-with, refused-with, told, output, paper-refusal, paper}
+use Rattle.layout.specs.Promises.{Answers}
+use Rattle.layout.specs.Openings.{sight, seen}
 use Rattle.bits.specs.Packed.{width}
 
--- the two promises of a function that reads or writes
-abbrev pub Answers : ℕ → Given → Answer → List ℕ → List ℕ → Type 0
-Answers w g r before after = (paper r ≡ told w g (length before)) × (after ≡ output g before)
+-- ---- computed: two places to be filled
+
+pub room-case : output (gives (1 ∷ 2 ∷ [])) (7 ∷ 8 ∷ 9 ∷ []) ≡ 1 ∷ 2 ∷ 9 ∷ []
+unfolding output
+room-case = refl
+
+-- without room nothing is changed, and 8 names the file
+pub no-room-case : output (gives (1 ∷ 2 ∷ [])) (7 ∷ []) ≡ 7 ∷ []
+unfolding output
+no-room-case = refl
+
+pub eight-case : told 1 (gives (1 ∷ 2 ∷ [])) 1 ≡ refused-with (record { number = 8; w = 1; a = 0; b = 0 })
+unfolding told
+eight-case = refl
+
+-- ---- what is answered
 
 module _ (w : ℕ) (g : Given) (out : List ℕ) where
-  pub answers-refusal : (r : Answer) {q : Refusal} → g ≡ refuses q → paper r ≡ refused-with q → Answers w g r out out
+  pub answers-refusal : (r : Answer) {q : Refusal} → g ≡ refuses q → paper r ≡ refused-with q → Answers w g out r out
   unfolding told output
-  answers-refusal r e p = (p ∙ rw e, rw e)
+  answers-refusal r e p = record { answered = p ∙ rw e; filled = rw e }
 
   -- a refusal that was handed on
-  pub answers-shut : (q : Fault) → g ≡ refuses (paper-refusal q) → Answers w g (Refused q) out out
+  pub answers-shut : (q : Fault) → g ≡ refuses (paper-refusal q) → Answers w g out (Refused q) out
   unfolding paper
   answers-shut q e = answers-refusal (Refused q) e refl
 
   pub answers-short : (r : Answer) {places : List ℕ} → g ≡ gives places → length out < length places
-      → paper r ≡ refused-with (refusal-at 8 w 0) → Answers w g r out out
+      → paper r ≡ refused-with (refusal-at 8 w 0) → Answers w g out r out
   unfolding told output
   answers-short r {places} e h p =
-      (p ∙ rw (e, lt-ltb (length out) (length places) h), rw (e, lt-ltb (length out) (length places) h))
+      let short = lt-ltb (length out) (length places) h in
+      record { answered = p ∙ rw (e, short); filled = rw (e, short) }
 
   pub answers-filled : {places after : List ℕ} {n : ℕ} → g ≡ gives places → length places ≤ length out → n ≡ length places
-      → after ≡ places ++ drop (length places) out → Answers w g (Filled n) out after
+      → after ≡ places ++ drop (length places) out → Answers w g out (Filled n) after
   unfolding told output paper
   answers-filled {places} e h p q =
-      (ap filled-with p ∙ rw (e, le-ltb (length out) (length places) h), q ∙ rw (e, le-ltb (length out) (length places) h))
+      let room = le-ltb (length out) (length places) h in
+      record { answered = ap filled-with p ∙ rw (e, room); filled = q ∙ rw (e, room) }
 
 -- ---- an opening, by what was seen
 

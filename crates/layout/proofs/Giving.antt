@@ -1,24 +1,21 @@
 -- The cases of reading and writing, as the code meets them.
 use Prim.Native.Nat.{ℕ, _<_, _≤_}
-use mathlib.Core.Path.{_≡_, refl, sym, _∙_, ap, subst}
-use mathlib.Core.List.{List, [], _++_, map}
-use mathlib.Core.Bool.{Bool, true, false, cond}
+use mathlib.Core.Path.{_≡_, sym, _∙_, ap, subst}
+use mathlib.Core.List.{List, [], _++_}
+use mathlib.Core.Bool.{true, false}
 use native.Mathlib.Omega.{arith}
 use borrow.Author.Tests.{lt-ltb, le-ltb}
 use lib.ListN.{length, drop, length-map}
-use lib.Dec.{ltb}
-use Rattle.bits.specs.Bits.{roomOf}
 use Rattle.bits.specs.Written.{Narrow}
-use Rattle.bits.specs.Packed.{width, bytesFor, packed}
+use Rattle.bits.specs.Packed.{bytesFor, packed}
 use Rattle.bits.proofs.PackedFields.{length-packed}
 use Rattle.patterns.specs.Refusal.{Refusal, book-place, certificate-place}
 use Rattle.fields.specs.declared.Walk.{Walk}
 use Rattle.fields.specs.Source.{from}
-use Rattle.fields.specs.Grammar.{Grammar, trace}
+use Rattle.fields.specs.Grammar.{Grammar}
 use Rattle.fields.specs.Run.{Ran}
 use Rattle.fields.proofs.Sinks.{values, sets, puts, sets-first, puts-first}
 use Rattle.fields.proofs.Found.{trace-narrow}
-use Rattle.grammar.specs.Books.{RuleBook, a-book}
 use Rattle.grammar.specs.Certificates.{a-certificate}
 use Rattle.terms.specs.Arity.{arityAt}
 use Rattle.terms.specs.Values.{nothing}
@@ -28,7 +25,7 @@ use Rattle.layout.specs.declared.Opening.{Opening}
 use Rattle.layout.specs.declared.Place.{Place}
 use Rattle.layout.specs.declared.Place.the-variants.{Certificate}
 use Rattle.layout.specs.Openings.{sight, seen, seen-bytes, seen-list, CertificateOpened, Beside}
-use Rattle.layout.specs.Answers.{w-of, Given, gives, refuses, listed, written, within, beside, reading-book, writing-book, listing-beside, writing-beside, reading-certificate, writing-certificate}
+use Rattle.layout.specs.Answers.{w-of, Given, gives, refuses, listed, written, within, beside, reading-book, listing-beside, writing-beside, reading-certificate, writing-certificate}
 use Rattle.layout.proofs.FileEnds.{words-after, bytes-after, bytes-seen, list-seen}
 use Rattle.layout.proofs.Answering.{Good}
 use Rattle.layout.proofs.Opens.{InBytes, InList}

@@ -7,4 +7,5 @@ pub mod Besides
 pub mod RoundTrips
 pub mod FirstFaults
 pub mod OneAnswer
+pub mod CallTrips
 pub mod OneFile

@@ -1,6 +1,7 @@
--- No second answer fits a contract: 01's numbers tell the code's enums.
+-- No second answer and no second output fit a contract: 01's numbers tell the code's enums, and the output is given by an equation.
 use Prim.Native.Nat.{ℕ}
-use mathlib.Core.Path.{_≡_, refl, ap}
+use mathlib.Core.Path.{_≡_, refl, sym, _∙_, ap}
+use mathlib.Core.List.{List}
 use native.Mathlib.Omega.{arith}
 use Rattle.patterns.specs.Refusal.{Refusal}
 use Rattle.layout.specs.declared.Place.{Place}
@@ -8,7 +9,8 @@ use Rattle.layout.specs.declared.Place.the-variants.{Book, Certificate, 
 use Rattle.layout.specs.declared.Refusal.{Refusal as Fault}
 use Rattle.layout.specs.declared.Answer.{Answer}
 use Rattle.layout.specs.declared.Answer.the-variants.{Filled, Refused}
-use Rattle.layout.specs.Answers.{w-of, paper-refusal, Told, filled-with, refused-with, paper}
+use Rattle.layout.specs.Answers.{w-of, paper-refusal, Given, paper}
+use Rattle.layout.specs.Promises.{Answers, BookRead, BookWritten, CertificateRead, CertificateWritten}
 
 pub w-tells : (p q : Place) → w-of p ≡ w-of q → p ≡ q
 unfolding w-of
@@ -56,3 +58,26 @@ paper-tells (Filled n) (Filled m) e = ap Filled (cc)
 paper-tells (Filled n) (Refused r) e = let z : _≡_ {A = ℕ} 0 1 = cc in absurd (omega arith)
 paper-tells (Refused r) (Filled m) e = let z : _≡_ {A = ℕ} 0 1 = cc in absurd (omega arith)
 paper-tells (Refused r) (Refused t) e = ap Refused (refusal-tells r t (cc))
+
+-- ---- the four operations
+
+answers-once : {w : ℕ} {g : Given} {before : List ℕ} {r s : Answer} {after other : List ℕ}
+    → Answers w g before r after → Answers w g before s other → (r ≡ s) × (after ≡ other)
+answers-once {w} {g} {before} {r} {s} h k =
+    (paper-tells r s (h .answered ∙ sym (k .answered)), h .filled ∙ sym (k .filled))
+
+module _ {before : List ℕ} {r s : Answer} {after other : List ℕ} where
+  pub book-read-once : {book : List ℕ} → BookRead book before r after → BookRead book before s other → (r ≡ s) × (after ≡ other)
+  book-read-once h k = answers-once (h .answers) (k .answers)
+
+  pub book-written-once : {fields : List ℕ} → BookWritten fields before r after → BookWritten fields before s other
+      → (r ≡ s) × (after ≡ other)
+  book-written-once h k = answers-once (h .answers) (k .answers)
+
+  pub certificate-read-once : {book certificate : List ℕ} → CertificateRead book certificate before r after
+      → CertificateRead book certificate before s other → (r ≡ s) × (after ≡ other)
+  certificate-read-once h k = answers-once (h .answers) (k .answers)
+
+  pub certificate-written-once : {book fields : List ℕ} → CertificateWritten book fields before r after
+      → CertificateWritten book fields before s other → (r ≡ s) × (after ≡ other)
+  certificate-written-once h k = answers-once (h .answers) (k .answers)

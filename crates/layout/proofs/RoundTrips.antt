@@ -1,30 +1,28 @@
 -- Round trips: bytes read and written again give the same bytes, and fields written and read again give the same list.
-use Prim.Native.Nat.{ℕ, _+_, _-_, _*_, _/_, _<_, _≤_, _^_}
+use Prim.Native.Nat.{ℕ, _+_, _-_, _*_, _≤_, _^_}
 use mathlib.Core.Path.{_≡_, refl, sym, _∙_, ap, subst}
-use mathlib.Core.List.{List, [], _++_, map, append-nil}
+use mathlib.Core.List.{List, [], append-nil}
 use mathlib.Core.Bool.{Bool, true, false, _&&_, cond}
 use native.Mathlib.Omega.{arith}
-use borrow.Author.Tests.{eq-eqb, eqb-true, lt-ltb, le-ltb, ltb-false}
+use borrow.Author.Tests.{eq-eqb, eqb-true, le-ltb, ltb-false}
 use lib.ListN.{length, length-map}
-use lib.Dec.{eqb, ltb}
+use lib.Dec.{ltb}
 use Rattle.bits.specs.Bits.{Bytes, bitsAt}
 use Rattle.bits.specs.Packed.{width, bytesFor, packed}
 use Rattle.bits.proofs.PackedFields.{length-packed, padding-reads}
-use Rattle.patterns.specs.Refusal.{Refusal, book-place, certificate-place}
+use Rattle.patterns.specs.Refusal.{book-place, certificate-place}
 use Rattle.patterns.specs.First.{Exp, Pair, Pace}
 use Rattle.patterns.specs.Certificate.{Certificate}
 use Rattle.fields.specs.Source.{from}
-use Rattle.fields.specs.Grammar.{Grammar, outcome, trace}
-use Rattle.fields.specs.Grammar.Outcome.{ok}
-use Rattle.fields.proofs.Binds.{after}
+use Rattle.fields.specs.Grammar.{Grammar}
 use Rattle.fields.proofs.Sinks.{values}
 use Rattle.fields.proofs.Found.{Found}
-use Rattle.fields.proofs.Trips.{end-bit, read-packed-field, read-trip, written-whole, write-trip}
+use Rattle.fields.proofs.Trips.{read-packed-field, read-trip, written-whole, write-trip}
 use Rattle.grammar.specs.Books.{RuleBook, a-book}
 use Rattle.books.specs.Counts.{start}
-use Rattle.layout.specs.Files.{Opened, good, bad, refusal-at, ends-at, closed-bytes, open-bytes, closed-list, open-list, certificate-of, open-book, open-certificate}
+use Rattle.layout.specs.Files.{Opened, good, bad, refusal-at, ends-at, open-bytes, open-list, certificate-of, open-book, open-certificate}
 use Rattle.layout.specs.Answers.{Given, gives, refuses, listed, written, within, beside, reading-book, writing-book, listing-beside, writing-beside, reading-certificate, writing-certificate}
-use Rattle.layout.proofs.Opens.{InBytes, in-bytes, InList, in-list}
+use Rattle.layout.proofs.Opens.{in-bytes, in-list}
 
 -- ---- one file, for every grammar
 

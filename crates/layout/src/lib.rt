@@ -4,22 +4,11 @@ use fields::Walk;
 ghost use mathlib.Core.Path.{_≡_};
 ghost use Prim.Native.Nat.{_≤_, _*_};
 ghost use lib.ListN.{length};
-ghost use Rattle.patterns.specs.Refusal.{book-place, certificate-place};
+ghost use Rattle.patterns.specs.Refusal.{certificate-place};
 ghost use Rattle.layout.specs.Files.{refusal-at, ends-at};
 ghost use Rattle.layout.specs.Openings.{bits-of, sight, seen-bytes, seen-list, BookOpened, CertificateOpened, Beside};
-ghost use Rattle.layout.specs.Answers.{
-  reading-book,
-  writing-book,
-  reading-certificate,
-  writing-certificate,
-  listing-beside,
-  writing-beside,
-  told,
-  output,
-  w-of,
-  paper,
-  refused-with,
-};
+ghost use Rattle.layout.specs.Answers.{listing-beside, writing-beside, w-of, paper, refused-with};
+ghost use Rattle.layout.specs.Promises.{Answers, BookRead, BookWritten, CertificateRead, CertificateWritten};
 
 // What a refusal speaks of.
 pub enum Place {
@@ -144,8 +133,7 @@ pub fn open_book(s: &[u8], counts: &mut [u8]) -> Opening
 
 // Reads a book's bytes into a list of its fields.
 pub fn read_book(book: &[u8], out: &mut [u16]) -> Answer
-    ensures answered { λ r. ⌜ paper r ≡ told book-place (reading-book (now (book .entry))) (length (now (out .entry))) ⌝ }
-    ensures filled { λ r. ⌜ now (out .exit) ≡ output (reading-book (now (book .entry))) (now (out .entry)) ⌝ }
+    ensures { λ r. ⌜ BookRead (now (book .entry)) (now (out .entry)) r (now (out .exit)) ⌝ }
 {
     if book.len() > 16384 {
         return refused(2, Place::Book);
@@ -167,8 +155,7 @@ pub fn read_book(book: &[u8], out: &mut [u16]) -> Answer
 
 // Writes a list of a book's fields into its bytes.
 pub fn write_book(fields: &[u16], out: &mut [u8]) -> Answer
-    ensures answered { λ r. ⌜ paper r ≡ told book-place (writing-book (now (fields .entry))) (length (now (out .entry))) ⌝ }
-    ensures filled { λ r. ⌜ now (out .exit) ≡ output (writing-book (now (fields .entry))) (now (out .entry)) ⌝ }
+    ensures { λ r. ⌜ BookWritten (now (fields .entry)) (now (out .entry)) r (now (out .exit)) ⌝ }
 {
     let none = [0u8; 0];
     let mut words = [0u16; 0];
@@ -211,8 +198,7 @@ pub fn open_certificate(book: &[u8], counts: &[u8], s: &[u8]) -> Opening
 // Reads the bytes of a certificate, beside its good book, into a list of its fields.
 fn list_certificate(book: &[u8], counts: &[u8], s: &[u8], out: &mut [u16]) -> Answer
     requires { ⌜ Beside (now book) (now counts) × (length (now s) ≤ 32768) ⌝ }
-    ensures answered { λ r. ⌜ paper r ≡ told certificate-place (listing-beside (now (book .entry)) (now (s .entry))) (length (now (out .entry))) ⌝ }
-    ensures filled { λ r. ⌜ now (out .exit) ≡ output (listing-beside (now (book .entry)) (now (s .entry))) (now (out .entry)) ⌝ }
+    ensures { λ r. ⌜ Answers certificate-place (listing-beside (now (book .entry)) (now (s .entry))) (now (out .entry)) r (now (out .exit)) ⌝ }
 {
     match open_certificate(book, counts, s) {
         Opening::Shut(r) => Answer::Refused(r),
@@ -235,8 +221,7 @@ fn list_certificate(book: &[u8], counts: &[u8], s: &[u8], out: &mut [u16]) -> An
 
 // Reads a certificate's bytes, with its book's, into a list of its fields.
 pub fn read_certificate(book: &[u8], certificate: &[u8], out: &mut [u16]) -> Answer
-    ensures answered { λ r. ⌜ paper r ≡ told certificate-place (reading-certificate (now (book .entry)) (now (certificate .entry))) (length (now (out .entry))) ⌝ }
-    ensures filled { λ r. ⌜ now (out .exit) ≡ output (reading-certificate (now (book .entry)) (now (certificate .entry))) (now (out .entry)) ⌝ }
+    ensures { λ r. ⌜ CertificateRead (now (book .entry)) (now (certificate .entry)) (now (out .entry)) r (now (out .exit)) ⌝ }
 {
     if book.len() > 16384 {
         return refused(2, Place::Book);
@@ -254,8 +239,7 @@ pub fn read_certificate(book: &[u8], certificate: &[u8], out: &mut [u16]) -> Ans
 // Writes a list of a certificate's fields, beside its good book, into its bytes.
 fn pack_certificate(book: &[u8], counts: &[u8], fields: &[u16], out: &mut [u8]) -> Answer
     requires { ⌜ Beside (now book) (now counts) ⌝ }
-    ensures answered { λ r. ⌜ paper r ≡ told certificate-place (writing-beside (now (book .entry)) (now (fields .entry))) (length (now (out .entry))) ⌝ }
-    ensures filled { λ r. ⌜ now (out .exit) ≡ output (writing-beside (now (book .entry)) (now (fields .entry))) (now (out .entry)) ⌝ }
+    ensures { λ r. ⌜ Answers certificate-place (writing-beside (now (book .entry)) (now (fields .entry))) (now (out .entry)) r (now (out .exit)) ⌝ }
 {
     let none = [0u8; 0];
     let mut words = [0u16; 0];
@@ -292,8 +276,7 @@ fn pack_certificate(book: &[u8], counts: &[u8], fields: &[u16], out: &mut [u8]) 
 
 // Writes a list of a certificate's fields, with its book's bytes, into its bytes.
 pub fn write_certificate(book: &[u8], fields: &[u16], out: &mut [u8]) -> Answer
-    ensures answered { λ r. ⌜ paper r ≡ told certificate-place (writing-certificate (now (book .entry)) (now (fields .entry))) (length (now (out .entry))) ⌝ }
-    ensures filled { λ r. ⌜ now (out .exit) ≡ output (writing-certificate (now (book .entry)) (now (fields .entry))) (now (out .entry)) ⌝ }
+    ensures { λ r. ⌜ CertificateWritten (now (book .entry)) (now (fields .entry)) (now (out .entry)) r (now (out .exit)) ⌝ }
 {
     if book.len() > 16384 {
         return refused(2, Place::Book);

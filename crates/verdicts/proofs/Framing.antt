@@ -11,25 +11,34 @@ use lib.Seq.{length-take-le, take-append-seam, drop-append-seam, drop-drop, getD
 use Rattle.bits.specs.Bits.{Bytes}
 use Rattle.patterns.specs.First.{Pace}
 use Rattle.patterns.specs.Judge.{Verdict, accept}
-use Rattle.verdicts.specs.Judging.{judging}
+use Rattle.verdicts.specs.Judging.{judging-files, refusal-one, with-table, judging}
 use Rattle.verdicts.specs.Demands.{NeverStuck}
-use Rattle.verdicts.specs.Program.{book-length, unframed, judging-parts, judging-input, framing, InputVerdict, too-long, cut-short, framed, AcceptableInput}
+use Rattle.verdicts.specs.Program.{book-length, unframed, judging-parts, judging-framed, judging-input, framing, InputVerdict, short-table, too-long, cut-short, framed, AcceptableInput}
+use Rattle.verdicts.proofs.Layers.{table-enough}
 use Rattle.verdicts.proofs.Demands.{acceptable-accepted, accepts-exactly-when, accepted-never-gets-stuck}
 
--- ---- the three ways
+-- ---- the four ways
 
-module _ (input : List ℕ) (size : ℕ) where
-  pub input-long : 49154 < length input → judging-input input size ≡ unframed 2
+module _ (input : List ℕ) where
+  pub input-unjudged : (size : ℕ) → size < 8192 → judging-input input size ≡ refusal-one
   unfolding judging-input
+  input-unjudged size h = rw (lt-ltb size 8192 h)
+
+  pub input-judged : (size : ℕ) → 8192 ≤ size → judging-input input size ≡ judging-framed input
+  unfolding judging-input
+  input-judged size h = rw (le-ltb size 8192 h)
+
+  pub input-long : 49154 < length input → judging-framed input ≡ unframed 2
+  unfolding judging-framed
   input-long h = rw (lt-ltb 49154 (length input) h)
 
-  pub input-cut : length input ≤ 49154 → length input < 2 + book-length input → judging-input input size ≡ unframed 3
-  unfolding judging-input
+  pub input-cut : length input ≤ 49154 → length input < 2 + book-length input → judging-framed input ≡ unframed 3
+  unfolding judging-framed
   input-cut k h = rw (le-ltb 49154 (length input) k, lt-ltb (length input) (2 + book-length input) h)
 
   pub input-whole : length input ≤ 49154 → 2 + book-length input ≤ length input
-      → judging-input input size ≡ judging-parts (book-length input) input size
-  unfolding judging-input
+      → judging-framed input ≡ judging-parts (book-length input) input
+  unfolding judging-framed
   input-whole k h = rw (le-ltb 49154 (length input) k, le-ltb (length input) (2 + book-length input) h)
 
 -- ---- two files in one input
@@ -59,21 +68,23 @@ module _ (book certificate : List ℕ) where
   unfolding framing book-length
   framing-says = omega arith
 
-  framing-parts : (size : ℕ) → judging-parts (length book) (framing book certificate) size ≡ judging book certificate size
+  framing-parts : judging-parts (length book) (framing book certificate) ≡ judging-files book certificate
   unfolding framing
-  framing-parts size =
-      ap₂ (λ (b c : List ℕ). judging b c size) (take-append-seam book certificate)
+  framing-parts =
+      ap₂ (λ (b c : List ℕ). judging-files b c) (take-append-seam book certificate)
       (sym (drop-drop (length book) 2 (framing book certificate)) ∙ drop-append-seam book certificate)
 
   -- A book and a certificate in one input are judged as they are by themselves.
   pub framed-is-judged : (size : ℕ) → length book + length certificate ≤ 49152
       → judging-input (framing book certificate) size ≡ judging book certificate size
+  unfolding judging-input judging
   framed-is-judged size h =
       let n = framing-length in
       let m = framing-says in
-      input-whole (framing book certificate) size (omega arith) (omega arith)
-      ∙ ap (λ (k : ℕ). judging-parts k (framing book certificate) size) m
-      ∙ framing-parts size
+      ap (with-table size)
+      (input-whole (framing book certificate) (omega arith) (omega arith)
+      ∙ ap (λ (k : ℕ). judging-parts k (framing book certificate)) m
+      ∙ framing-parts)
 
 -- and each input with a whole book is one of these
 whole-framed : (input : List ℕ) → Bytes input → 2 + book-length input ≤ length input
@@ -92,22 +103,27 @@ whole-framed (high ∷ low ∷ rest) bytes h =
 
 module _ (input : List ℕ) (bytes : Bytes input) (size : ℕ) where
   input-verdict : InputVerdict input size (judging-input input size)
-  input-verdict = go (decLe (length input) 49154) (decLe (2 + book-length input) (length input))
+  input-verdict = go (decLe 8192 size) (decLe (length input) 49154) (decLe (2 + book-length input) (length input))
     where
-      go : Dec (length input ≤ 49154) → Dec (2 + book-length input ≤ length input)
+      go : Dec (8192 ≤ size) → Dec (length input ≤ 49154) → Dec (2 + book-length input ≤ length input)
           → InputVerdict input size (judging-input input size)
-      go (no k) d = too-long (omega arith) (input-long input size (omega arith))
-      go (yes k) (no h) = cut-short k (omega arith) (input-cut input size k (omega arith))
-      go (yes k) (yes h) = framed k _ _ (whole-framed input bytes h) (input-whole input size k h)
+      go (no t) j d = short-table (omega arith) (input-unjudged input size (omega arith))
+      go (yes t) (no k) d = too-long t (omega arith) (input-judged input size t ∙ input-long input (omega arith))
+      go (yes t) (yes k) (no h) = cut-short t k (omega arith) (input-judged input size t ∙ input-cut input k (omega arith))
+      go (yes t) (yes k) (yes h) =
+          framed t k _ _ (whole-framed input bytes h)
+          (input-judged input size t ∙ input-whole input k h ∙ sym (table-enough _ _ size t))
 
-  -- The program's answer is 2 for a long input, 3 for one that is cut short, and else the judge's for the two parts.
+  -- The program's answer is 1 for a short table, then 2 for a long input, 3 for one that is cut short, and else the judge's for the
+  -- two parts.
   pub input-exactly : (v : Verdict Pace) → (judging-input input size ≡ v) ↔ InputVerdict input size v
   input-exactly v = (λ e. subst (InputVerdict input size) e input-verdict, back)
     where
       back : InputVerdict input size v → judging-input input size ≡ v
-      back (too-long h e) = input-long input size h ∙ sym e
-      back (cut-short k h e) = input-cut input size k h ∙ sym e
-      back (framed k book certificate e q) =
+      back (short-table t e) = input-unjudged input size t ∙ sym e
+      back (too-long t h e) = input-judged input size t ∙ input-long input h ∙ sym e
+      back (cut-short t k h e) = input-judged input size t ∙ input-cut input k h ∙ sym e
+      back (framed t k book certificate e q) =
           ap (λ (s : List ℕ). judging-input s size) e
           ∙ framed-is-judged book certificate size (omega (arith, ap length e, framing-length book certificate))
           ∙ sym q
@@ -118,9 +134,10 @@ module _ (input : List ℕ) (bytes : Bytes input) (size : ℕ) where
   input-accepted-exactly-when line pace = (λ e. forth (input-exactly (accept line pace) .0 e), back)
     where
       forth : InputVerdict input size (accept line pace) → AcceptableInput input size line pace
-      forth (too-long h e) = let z : _≡_ {A = ℕ} 0 1 = cc in absurd (omega arith)
-      forth (cut-short k h e) = let z : _≡_ {A = ℕ} 0 1 = cc in absurd (omega arith)
-      forth (framed k book certificate e q) =
+      forth (short-table t e) = let z : _≡_ {A = ℕ} 0 1 = cc in absurd (omega arith)
+      forth (too-long t h e) = let z : _≡_ {A = ℕ} 0 1 = cc in absurd (omega arith)
+      forth (cut-short t k h e) = let z : _≡_ {A = ℕ} 0 1 = cc in absurd (omega arith)
+      forth (framed t k book certificate e q) =
           let all = framed-bytes book certificate (subst Bytes e bytes) in
           let is = bytes-front book certificate all in
           let are = bytes-behind book certificate all in

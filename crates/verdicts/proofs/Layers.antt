@@ -1,21 +1,26 @@
 -- The judge's answer, one layer after the other: the work table, the lengths of both files, their layout, the checks.
 use Prim.Native.Nat.{ℕ, _≤_, _<_}
-use mathlib.Core.Path.{_≡_}
+use mathlib.Core.Path.{_≡_, refl}
 use mathlib.Core.List.{List}
 use borrow.Author.Tests.{lt-ltb, le-ltb}
 use lib.ListN.{length}
 use Rattle.patterns.specs.Certificate.{Certificate}
-use Rattle.patterns.specs.Refusal.{Refusal, book-place, certificate-place, neither-place}
+use Rattle.patterns.specs.Refusal.{Refusal, book-place, certificate-place}
 use Rattle.patterns.specs.Judge.{refuse, judge}
 use Rattle.patterns.specs.First.{Exp, Pair, Pace, one}
 use Rattle.grammar.specs.Books.{RuleBook}
 use Rattle.layout.specs.Files.{good, bad, refusal-at, open-book, open-certificate}
-use Rattle.verdicts.specs.Judging.{judging-certificate, judging-files, judging}
+use Rattle.verdicts.specs.Judging.{judging-certificate, judging-files, refusal-one, judging}
 
 module _ (book certificate : List ℕ) where
   -- ---- the work table
 
-  pub table-short : (size : ℕ) → size < 8192 → judging book certificate size ≡ refuse (refusal-at 1 neither-place 0)
+  -- 8,191 numbers are refused with 1, and 1 has W = 4
+  pub table-case : judging book certificate 8191 ≡ refuse (record { number = 1; w = 4; a = 0; b = 0 })
+  unfolding judging
+  table-case = refl
+
+  pub table-short : (size : ℕ) → size < 8192 → judging book certificate size ≡ refusal-one
   unfolding judging
   table-short size h = rw (lt-ltb size 8192 h)
 

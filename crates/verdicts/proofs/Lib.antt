@@ -10,8 +10,8 @@ pub mod InTable
 pub mod CheckedLines
 pub mod CheckedTable
 pub mod AnsweredTable
-pub mod WorkTables
 pub mod Framing
+pub mod WorkTables
 pub mod OneVerdict
 pub mod OneLine
 pub mod Compute

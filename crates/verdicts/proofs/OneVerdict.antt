@@ -1,9 +1,8 @@
--- No second answer fits a contract: 01's numbers tell the code's verdict, and what is left in lent memory is determined too.
+-- 01's numbers tell the code's verdict, so that no second one fits a contract.
 use Prim.Native.Nat.{ℕ}
 use mathlib.Core.Path.{_≡_, ap, sym, _∙_}
 use mathlib.Core.List.{List}
 use native.Mathlib.Omega.{arith}
-use lib.ListN.{length}
 use Rattle.patterns.specs.First.{Pace}
 use Rattle.patterns.specs.Judge.{Verdict}
 use Rattle.layout.proofs.OneAnswer.{refusal-tells}
@@ -11,8 +10,6 @@ use Rattle.verdicts.specs.declared.Acceptance.{Acceptance}
 use Rattle.verdicts.specs.declared.Verdict.{Verdict as Ruling}
 use Rattle.verdicts.specs.declared.Verdict.the-variants.{Accepted, Refused}
 use Rattle.verdicts.specs.Verdicts.{paper-pace, paper}
-use Rattle.verdicts.specs.Judging.{judging, work-after}
-use Rattle.verdicts.specs.Program.{judging-input}
 
 acceptance-tells : (p q : Acceptance) → p .line ≡ q .line → paper-pace p ≡ paper-pace q → p ≡ q
 unfolding paper-pace
@@ -31,21 +28,7 @@ paper-tells (Accepted a) (Refused r) e = let z : _≡_ {A = ℕ} 0 1 = cc in abs
 paper-tells (Refused r) (Accepted a) e = let z : _≡_ {A = ℕ} 0 1 = cc in absurd (omega arith)
 paper-tells (Refused r) (Refused t) e = ap Refused (refusal-tells r t (cc))
 
--- two answers with their tables, where both are determined
-one-answer : {v : Verdict Pace} {left : List ℕ} (p q : Ruling) (after after′ : List ℕ)
-    → (paper p ≡ v) × (after ≡ left) → (paper q ≡ v) × (after′ ≡ left) → (p ≡ q) × (after ≡ after′)
-one-answer p q after after′ h k = (paper-tells p q (h .0 ∙ sym (k .0)), h .1 ∙ sym (k .1))
-
--- No second verdict, and no second work table, fits the judge's contract;
-pub one-verdict : (book certificate work : List ℕ) (p q : Ruling) (after after′ : List ℕ)
-    → (paper p ≡ judging book certificate (length work)) × (after ≡ work-after work)
-    → (paper q ≡ judging book certificate (length work)) × (after′ ≡ work-after work)
-    → (p ≡ q) × (after ≡ after′)
-one-verdict book certificate work p q after after′ h k = one-answer p q after after′ h k
-
--- nor that of the judge of an input.
-pub one-input-verdict : (input work : List ℕ) (p q : Ruling) (after after′ : List ℕ)
-    → (paper p ≡ judging-input input (length work)) × (after ≡ work-after work)
-    → (paper q ≡ judging-input input (length work)) × (after′ ≡ work-after work)
-    → (p ≡ q) × (after ≡ after′)
-one-input-verdict input work p q after after′ h k = one-answer p q after after′ h k
+-- Two answers with their tables, where 01's numbers and what is left are determined, are the same.
+pub one-ruling : {v : Verdict Pace} {left : List ℕ} (p q : Ruling) {after other : List ℕ}
+    → (paper p ≡ v) × (after ≡ left) → (paper q ≡ v) × (other ≡ left) → (p ≡ q) × (after ≡ other)
+one-ruling p q h k = (paper-tells p q (h .0 ∙ sym (k .0)), h .1 ∙ sym (k .1))

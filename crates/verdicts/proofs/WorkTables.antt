@@ -1,14 +1,14 @@
--- Refusal 1 is given exactly for a work table that is too short, and the table is all zeros after every answer but that.
-use Prim.Native.Nat.{ℕ, suc, _≤_, _<_}
+-- Refusal 1 is given exactly for a work table that is too short, over two files and over an input; the table is all zeros after every
+-- other answer.
+use Prim.Native.Nat.{ℕ, suc, _+_, _≤_, _<_}
 use mathlib.Core.Logic.{_↔_, _≢_}
-use mathlib.Core.Path.{_≡_, refl, sym, ap, subst}
+use mathlib.Core.Path.{_≡_, refl, sym, _∙_, ap, subst}
 use mathlib.Core.List.{List, [], _∷_, _++_}
 use mathlib.Core.Bool.{Bool, true, false, cond}
 use native.Mathlib.Omega.{arith}
 use native.Mathlib.Decide.{decLe}
 use borrow.Author.Tests.{lt-ltb, le-ltb}
 use lib.ListN.{length, replicate}
-use Rattle.bits.specs.Bits.{Bytes}
 use Rattle.fields.specs.Source.{from}
 use Rattle.fields.specs.Grammar.{Grammar, Outcome, outcome, trace}
 use Rattle.fields.specs.Grammar.Outcome.{ok, no as stopped}
@@ -17,13 +17,16 @@ use Rattle.patterns.specs.Every.{Every}
 use Rattle.patterns.specs.Derive.{Book}
 use Rattle.patterns.specs.Certificate.{Claim, Line, Closing, Certificate}
 use Rattle.patterns.specs.Refusal.{Refusal, book-place, certificate-place, line-place, closing-place, neither-place}
-use Rattle.patterns.specs.Judge.{Placed, place, line-checks, closing-checks, checks-from, checks, refuse, FirstBroken}
+use Rattle.patterns.specs.Judge.{Verdict, Placed, place, line-checks, closing-checks, checks-from, checks, refuse, FirstBroken}
 use Rattle.patterns.specs.First.{Exp, Pair, Pace, one}
+use Rattle.patterns.proofs.Judged.{refuses-exactly}
 use Rattle.patterns.proofs.Every.{every-append, every-map, every-rest}
-use Rattle.layout.specs.Files.{good, bad, refusal-at, ends-at, closed-bytes, open-bytes, open-book, open-certificate}
-use Rattle.verdicts.specs.Judging.{judging, work-after}
-use Rattle.verdicts.specs.Demands.{FirstRefusal, short-table, long-book, long-certificate, bad-book, bad-certificate, broken-check}
-use Rattle.verdicts.proofs.Demands.{refuses-exactly-when}
+use Rattle.grammar.specs.Books.{RuleBook}
+use Rattle.layout.specs.Files.{Opened, good, bad, refusal-at, ends-at, closed-bytes, open-bytes, open-book, open-certificate}
+use Rattle.verdicts.specs.Judging.{judging-certificate, judging-files, refusal-one, with-table, judging, work-after}
+use Rattle.verdicts.specs.Program.{book-length, judging-framed, judging-input}
+use Rattle.verdicts.proofs.Layers.{book-long, certificate-long, both-short, book-refused, certificate-refused, both-opened}
+use Rattle.verdicts.proofs.Framing.{input-long, input-cut, input-whole}
 
 -- ---- no refusal but 1 has W = 4
 
@@ -69,36 +72,104 @@ broken-inside B K r f =
 
 -- ---- refusal 1
 
-module _ (book certificate : List ℕ) (is-bytes : Bytes book) (are-bytes : Bytes certificate) where
-  -- Refusal 1 is given exactly when the work table has fewer than 8,192 numbers.
-  pub refusal-one-exactly-when : (size : ℕ)
-      → (judging book certificate size ≡ refuse (refusal-at 1 neither-place 0)) ↔ (size < 8192)
-  unfolding open-book open-certificate
-  refusal-one-exactly-when size = (
-    λ e. go (refuses-exactly-when book certificate is-bytes are-bytes size (refusal-at 1 neither-place 0) .0 e),
-    λ h. refuses-exactly-when book certificate is-bytes are-bytes size (refusal-at 1 neither-place 0) .1 (short-table h refl),
-  )
+-- a refusal with another number is not 1
+another : {m w : ℕ} → m ≢ 1 → _≢_ {A = Verdict Pace} (refuse (refusal-at m w 0)) refusal-one
+another {m} {w} n q =
+    let r : refusal-at m w 0 ≡ refusal-at 1 neither-place 0 = cc q in
+    n (ap (λ (t : Refusal). t .number) r)
+
+-- no refusal of the two files is 1,
+files-never-one : (book certificate : List ℕ) → judging-files book certificate ≢ refusal-one
+unfolding open-book open-certificate
+files-never-one book certificate = go (decLe (length book) 16384) (decLe (length certificate) 32768)
+  where
+    judged : (b : RuleBook) (fs : List (ℕ × ℕ)) → open-book book ≡ good b fs
+        → (o : Opened (Certificate Exp Pair Pace)) → open-certificate b certificate ≡ o
+        → judging-certificate book certificate ≢ refusal-one
+    judged b fs e (good K gs) f q =
+        let h = refuses-exactly one (b .rules) K _ .0 (sym (both-opened book certificate b fs e K gs f) ∙ q) in
+        omega (arith, broken-inside (b .rules) K _ h)
+    judged b fs e (bad r) f q =
+        let h = sym (certificate-refused book certificate b fs e r f) ∙ q in
+        let w : r ≡ refusal-at 1 neither-place 0 = cc h in
+        omega (arith, file-named certificate-place _ certificate f, ap (λ (t : Refusal). t .w) w)
+
+    read : (o : Opened RuleBook) → open-book book ≡ o → judging-certificate book certificate ≢ refusal-one
+    read (good b fs) e q = judged b fs e (open-certificate b certificate) refl q
+    read (bad r) e q =
+        let h = sym (book-refused book certificate r e) ∙ q in
+        let w : r ≡ refusal-at 1 neither-place 0 = cc h in
+        omega (arith, file-named book-place _ book e, ap (λ (t : Refusal). t .w) w)
+
+    go : Dec (length book ≤ 16384) → Dec (length certificate ≤ 32768) → judging-files book certificate ≢ refusal-one
+    go (no n) m q = another (λ e. omega arith) (sym (book-long book certificate (omega arith)) ∙ q)
+    go (yes n) (no m) q = another (λ e. omega arith) (sym (certificate-long book certificate n (omega arith)) ∙ q)
+    go (yes n) (yes m) q = read (open-book book) refl (sym (both-short book certificate n m) ∙ q)
+
+-- and none of an input behind its table
+framed-never-one : (input : List ℕ) → judging-framed input ≢ refusal-one
+framed-never-one input = go (decLe (length input) 49154) (decLe (2 + book-length input) (length input))
+  where
+    go : Dec (length input ≤ 49154) → Dec (2 + book-length input ≤ length input) → judging-framed input ≢ refusal-one
+    go (no k) d q = another (λ e. omega arith) (sym (input-long input (omega arith)) ∙ q)
+    go (yes k) (no h) q = another (λ e. omega arith) (sym (input-cut input k (omega arith)) ∙ q)
+    go (yes k) (yes h) q = files-never-one _ _ (sym (input-whole input k h) ∙ q)
+
+module _ (v : Verdict Pace) (never : v ≢ refusal-one) where
+  one-exactly-when : (size : ℕ) → (with-table size v ≡ refusal-one) ↔ (size < 8192)
+  one-exactly-when size = (λ e. go e (decLe 8192 size), λ h. rw (lt-ltb size 8192 h))
     where
-      go : FirstRefusal book certificate size (refusal-at 1 neither-place 0) → size < 8192
-      go (short-table h e) = h
-      go (long-book t h e) = absurd (omega (arith, ap (λ (r : Refusal). r .number) e))
-      go (long-certificate t n h e) = absurd (omega (arith, ap (λ (r : Refusal). r .number) e))
-      go (bad-book t n m number place f e) = absurd (omega (arith, ap (λ (r : Refusal). r .w) e))
-      go (bad-certificate t b f m number place g e) = absurd (omega (arith, ap (λ (r : Refusal). r .w) e))
-      go (broken-check t b f K g e) = absurd (omega (arith, broken-inside (b .rules) K _ e))
+      go : with-table size v ≡ refusal-one → Dec (8192 ≤ size) → size < 8192
+      go e (yes h) = absurd (never (sym (rw (le-ltb size 8192 h)) ∙ e))
+      go e (no h) = omega arith
 
-  -- The work table is not touched by refusal 1,
-  pub work-kept : (work : List ℕ) → judging book certificate (length work) ≡ refuse (refusal-at 1 neither-place 0)
-      → work-after work ≡ work
+  kept : (work : List ℕ) → with-table (length work) v ≡ refusal-one → work-after work ≡ work
   unfolding work-after
-  work-kept work e = rw (lt-ltb (length work) 8192 (refusal-one-exactly-when (length work) .0 e))
+  kept work e = rw (lt-ltb (length work) 8192 (one-exactly-when (length work) .0 e))
 
-  -- and is all zeros after every other answer.
-  pub work-cleared : (work : List ℕ) → judging book certificate (length work) ≢ refuse (refusal-at 1 neither-place 0)
-      → work-after work ≡ replicate (length work) 0
+  cleared : (work : List ℕ) → with-table (length work) v ≢ refusal-one → work-after work ≡ replicate (length work) 0
   unfolding work-after
-  work-cleared work n = go (decLe 8192 (length work))
+  cleared work n = go (decLe 8192 (length work))
     where
       go : Dec (8192 ≤ length work) → work-after work ≡ replicate (length work) 0
       go (yes h) = rw (le-ltb (length work) 8192 h)
-      go (no h) = absurd (n (refusal-one-exactly-when (length work) .1 (omega arith)))
+      go (no h) = absurd (n (one-exactly-when (length work) .1 (omega arith)))
+
+-- ---- the judge of two files
+
+module _ (book certificate : List ℕ) where
+  -- Refusal 1 is given exactly when the work table has fewer than 8,192 numbers.
+  pub refusal-one-exactly-when : (size : ℕ)
+      → (judging book certificate size ≡ refusal-one) ↔ (size < 8192)
+  unfolding judging
+  refusal-one-exactly-when size = one-exactly-when _ (files-never-one book certificate) size
+
+  -- The work table is not touched by refusal 1,
+  pub work-kept : (work : List ℕ) → judging book certificate (length work) ≡ refusal-one
+      → work-after work ≡ work
+  unfolding judging
+  work-kept work e = kept _ (files-never-one book certificate) work e
+
+  -- and is all zeros after every other answer.
+  pub work-cleared : (work : List ℕ) → judging book certificate (length work) ≢ refusal-one
+      → work-after work ≡ replicate (length work) 0
+  unfolding judging
+  work-cleared work n = cleared _ (files-never-one book certificate) work n
+
+-- ---- the judge of an input
+
+module _ (input : List ℕ) where
+  pub input-refusal-one-exactly-when : (size : ℕ)
+      → (judging-input input size ≡ refusal-one) ↔ (size < 8192)
+  unfolding judging-input
+  input-refusal-one-exactly-when size = one-exactly-when _ (framed-never-one input) size
+
+  pub input-work-kept : (work : List ℕ) → judging-input input (length work) ≡ refusal-one
+      → work-after work ≡ work
+  unfolding judging-input
+  input-work-kept work e = kept _ (framed-never-one input) work e
+
+  pub input-work-cleared : (work : List ℕ) → judging-input input (length work) ≢ refusal-one
+      → work-after work ≡ replicate (length work) 0
+  unfolding judging-input
+  input-work-cleared work n = cleared _ (framed-never-one input) work n

@@ -29,10 +29,16 @@ unfoldable pub judging-files : List ℕ → List ℕ → Verdict Pace
 judging-files book certificate =
     within book-place 16384 book (within certificate-place 32768 certificate (judging-certificate book certificate))
 
--- 01, 1: "the work table has fewer than 8,192 64-bit numbers"; `size` is how many it has
+-- 01: "1 has W = 4", and A and B 0
+abbrev pub refusal-one : Verdict Pace
+refusal-one = refuse (refusal-at 1 neither-place 0)
+
+-- 01, 1: "the work table has fewer than 8,192 64-bit numbers"; `size` is how many it has. It stands before all else.
+abbrev pub with-table : ℕ → Verdict Pace → Verdict Pace
+with-table size rest = cond (ltb size 8192) refusal-one rest
+
 unfoldable pub judging : List ℕ → List ℕ → ℕ → Verdict Pace
-judging book certificate size =
-    cond (ltb size 8192) (refuse (refusal-at 1 neither-place 0)) (judging-files book certificate)
+judging book certificate size = with-table size (judging-files book certificate)
 
 -- 01: "The work table is all zeros after every call but refusal 1, which doesn't touch it."
 unfoldable pub work-after : List ℕ → List ℕ

@@ -9,7 +9,7 @@ use Rattle.patterns.specs.Refusal.{neither-place}
 use Rattle.patterns.specs.First.{Pace}
 use Rattle.patterns.specs.Judge.{Verdict, refuse}
 use Rattle.layout.specs.Files.{refusal-at}
-use Rattle.verdicts.specs.Judging.{judging}
+use Rattle.verdicts.specs.Judging.{judging-files, refusal-one, with-table, judging}
 use Rattle.verdicts.specs.Demands.{Acceptable}
 
 -- "two bytes, the book's length, high byte first"
@@ -21,26 +21,33 @@ abbrev pub unframed : ℕ → Verdict Pace
 unframed number = refuse (refusal-at number neither-place 0)
 
 -- "then the book; the certificate begins at the next byte after the book and takes the rest"
-abbrev pub judging-parts : ℕ → List ℕ → ℕ → Verdict Pace
-judging-parts n input size = judging (take n (drop 2 input)) (drop (2 + n) input) size
+abbrev pub judging-parts : ℕ → List ℕ → Verdict Pace
+judging-parts n input = judging-files (take n (drop 2 input)) (drop (2 + n) input)
 
--- "More than 49,154 bytes is refusal 2, fewer than two bytes or fewer than the length says is 3": 2 stands before 3, and both before
--- all that the judge gives. The work table is left as the judge leaves it, by `work-after`.
-unfoldable pub judging-input : List ℕ → ℕ → Verdict Pace
-judging-input input size =
+-- all but refusal 1. "More than 49,154 bytes is refusal 2, fewer than two bytes or fewer than the length says is 3": 2 stands before
+-- 3, and both before all that the two files give.
+unfoldable pub judging-framed : List ℕ → Verdict Pace
+judging-framed input =
     cond (ltb 49154 (length input)) (unframed 2)
-    (cond (ltb (length input) (2 + book-length input)) (unframed 3) (judging-parts (book-length input) input size))
+    (cond (ltb (length input) (2 + book-length input)) (unframed 3) (judging-parts (book-length input) input))
 
--- ---- the same, without the order of tests
+-- 01: "Order: 1; ..": a work table that is too short is refused here too, before the framing. "The work table is all zeros after
+-- every call but refusal 1, which doesn't touch it", as `work-after` says.
+unfoldable pub judging-input : List ℕ → ℕ → Verdict Pace
+judging-input input size = with-table size (judging-framed input)
+
+-- ---- the same, without a run: which answer each input gets
 
 -- the input that holds a book and a certificate
 unfoldable pub framing : List ℕ → List ℕ → List ℕ
 framing book certificate = length book / 256 ∷ length book % 256 ∷ book ++ certificate
 
 pub data InputVerdict (input : List ℕ) (size : ℕ) (v : Verdict Pace) : Type 0 where
-  too-long : 49154 < length input → v ≡ unframed 2 → InputVerdict input size v
-  cut-short : length input ≤ 49154 → length input < 2 + book-length input → v ≡ unframed 3 → InputVerdict input size v
-  framed : length input ≤ 49154 → (book certificate : List ℕ) → input ≡ framing book certificate
+  short-table : size < 8192 → v ≡ refusal-one → InputVerdict input size v
+  too-long : 8192 ≤ size → 49154 < length input → v ≡ unframed 2 → InputVerdict input size v
+  cut-short : 8192 ≤ size → length input ≤ 49154 → length input < 2 + book-length input → v ≡ unframed 3
+      → InputVerdict input size v
+  framed : 8192 ≤ size → length input ≤ 49154 → (book certificate : List ℕ) → input ≡ framing book certificate
       → v ≡ judging book certificate size → InputVerdict input size v
 
 -- an input that is to be accepted

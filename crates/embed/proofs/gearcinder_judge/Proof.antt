@@ -14,7 +14,7 @@ same-length : tie.Need-same-length
 same-length c = search needs
 
 returns : tie.Need-returns
-returns c = tells-verdict _ (c .before .before .before .judge .ensures .0) (c .before .before .before .judge .ensures .1) (c .verdict-numbers .ensures)
+returns c = tells-verdict _ (c .before .before .before .judge .ensures .answered) (c .before .before .before .judge .ensures .cleared) (c .verdict-numbers .ensures)
 
 pub gearcinder-judge-spec : {M : Type 1} → statement M
 gearcinder-judge-spec =

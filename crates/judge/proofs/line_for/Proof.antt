@@ -15,7 +15,7 @@ verdict-line-requires : tie.Need-verdict-line-requires
 verdict-line-requires c κs = search needs
 
 returns : tie.Need-returns
-returns c = line-printed _ _ (omega arith) (c .before .before .before .judge-input .ensures .0) (c .verdict-line .ensures)
+returns c = line-printed _ _ (omega arith) (c .before .before .before .judge-input .ensures .answered) (c .verdict-line .ensures)
 
 pub line-for-spec : {M : Type 1} → statement M
 line-for-spec =

@@ -1,91 +1,47 @@
--- `judging::judge_input` meets its contract: one of the three ways of the framing at each return.
-use native.Mathlib.Omega.{arith}
-use Rattle.judging.proofs.Inputs.{long-input, cut-input, whole-input}
+-- `judging::judge_input` meets its contract: refusal 1, or the verdict on the input with the table cleared.
+use Rattle.judging.proofs.Inputs.{not-less, left-short, left-cleared}
+use Rattle.table.proofs.Comparing.{says-true, says-false}
+use Rattle.verdicts.proofs.Framing.{input-unjudged, input-judged}
+use Rattle.verdicts.specs.Verdicts.{paper}
+use lib.ListN.{replicate}
+use mathlib.Core.Path.{sym, ap, _∙_}
 use borrow.Author.Needs.{needs}
 use Rattle.judging.proofs.judge_input.Statement.{statement}
 use Rattle.judging.proofs.judge_input.Tie as tie
 
-unframed-requires : tie.Need-unframed-requires
-unframed-requires c κs = search needs
+is-short-requires : tie.Need-is-short-requires
+is-short-requires c κs = search needs
+
+short-table-requires : tie.Need-short-table-requires
+short-table-requires c κs = search needs
 
 same-length : tie.Need-same-length
 same-length c = search needs
 
 returns : tie.Need-returns
-returns c = long-input _ _ _ (c .before .before .before .before .if1 .taken) (c .before .before .unframed .ensures)
+returns c = let h = says-true _ (c .before .before .is-short .ensures) (c .before .if1 .taken) in record { bytes = λ i. c .before .before .before .before .before .shared-slice-known .given i .fits; answered = c .short-table .ensures ∙ sym (input-unjudged _ _ h); cleared = left-short _ h }
 
-unframed-requires-2 : tie.Need-unframed-requires-2
-unframed-requires-2 c κs = search needs
+judge-framed-requires : tie.Need-judge-framed-requires
+judge-framed-requires c κs = not-less (says-false _ (c .before .before .is-short .ensures) (c .before .if1 .left))
+
+cleared-requires : tie.Need-cleared-requires
+cleared-requires c κs = search needs
 
 same-length-2 : tie.Need-same-length-2
 same-length-2 c = search needs
 
 returns-2 : tie.Need-returns-2
-returns-2 c = cut-input _ _ _ (c .before .before .before .before .before .if1 .left) (omega arith) (c .before .before .unframed2 .ensures)
-
-book-length-requires : tie.Need-book-length-requires
-book-length-requires c κs = search needs
-
-add-end : tie.Need-add-end
-add-end c = search needs
-
-unframed-requires-3 : tie.Need-unframed-requires-3
-unframed-requires-3 c κs = search needs
-
-same-length-3 : tie.Need-same-length-3
-same-length-3 c = search needs
-
-returns-3 : tie.Need-returns-3
-returns-3 c = cut-input _ _ _ (c .before .before .before .before .before .before .before .if1 .left) (omega arith) (c .before .before .unframed3 .ensures)
-
-sub-judge : tie.Need-sub-judge
-sub-judge c = search needs
-
-part-judge-start : tie.Need-part-judge-start
-part-judge-start c = search needs
-
-part-judge-end : tie.Need-part-judge-end
-part-judge-end c = search needs
-
-sub-judge-2 : tie.Need-sub-judge-2
-sub-judge-2 c = search needs
-
-part-judge-start-2 : tie.Need-part-judge-start-2
-part-judge-start-2 c = search needs
-
-part-judge-end-2 : tie.Need-part-judge-end-2
-part-judge-end-2 c = search needs
-
-judge-requires : tie.Need-judge-requires
-judge-requires c κs = search needs
-
-same-length-4 : tie.Need-same-length-4
-same-length-4 c = search needs
-
-returns-4 : tie.Need-returns-4
-returns-4 c = whole-input _ _ _ (c .before .before .before .before .before .before .before .book-length .ensures .0) (c .before .before .before .before .before .before .before .before .before .if1 .left) (omega arith) (c .before .before .judge .ensures)
+returns-2 c = let h = not-less (says-false _ (c .before .before .before .before .before .before .before .before .before .is-short .ensures) (c .before .before .before .before .before .before .before .before .if1 .left)) in record { bytes = λ i. c .before .before .before .before .before .before .before .before .before .before .before .before .shared-slice-known .given i .fits; answered = ap paper (c .before .before .cleared .ensures .0) ∙ c .before .before .before .before .before .before .judge-framed .ensures .0 ∙ sym (input-judged _ _ h); cleared = left-cleared _ h (c .before .before .cleared .ensures .1 ∙ ap (λ n. replicate n 0) (c .before .before .before .before .before .before .judge-framed .ensures .1)) }
 
 pub judge-input-spec : {M : Type 1} → statement M
 judge-input-spec =
     tie.close
     (tie.spec
-    unframed-requires
+    is-short-requires
+    short-table-requires
     same-length
     returns
-    unframed-requires-2
+    judge-framed-requires
+    cleared-requires
     same-length-2
-    returns-2
-    book-length-requires
-    add-end
-    unframed-requires-3
-    same-length-3
-    returns-3
-    sub-judge
-    part-judge-start
-    part-judge-end
-    sub-judge-2
-    part-judge-start-2
-    part-judge-end-2
-    judge-requires
-    same-length-4
-    returns-4)
+    returns-2)

@@ -18,7 +18,7 @@ refused-requires c κs = search needs
 
 returns : tie.Need-returns
 unfolding w-of
-returns c = answers-refusal _ _ _ _ (book-too-long _ (c .before .if1 .taken)) (c .refused .ensures)
+returns c = record { bytes = λ i. c .before .before .before .shared-slice-known .given i .fits; answers = answers-refusal _ _ _ _ (book-too-long _ (c .before .if1 .taken)) (c .refused .ensures) }
 
 slice-aggregate-open-book : tie.Need-slice-aggregate-open-book
 slice-aggregate-open-book c = search needs
@@ -37,7 +37,7 @@ refused-requires-2 c κs = search needs
 
 returns-2 : tie.Need-returns-2
 unfolding w-of
-returns-2 c = let g = opening-good _ _ (c .before .before .before .before .before .before .open-book .ensures .told) (c .before .before .before .n .given .1) in let e = good-length g in answers-short _ _ _ _ (book-read _ (c .before .before .before .before .before .before .before .before .if1 .left) ∙ good-listed g) (omega (arith, c .before .if2 .taken)) (c .refused2 .ensures)
+returns-2 c = record { bytes = λ i. c .before .before .before .before .before .before .before .before .before .before .shared-slice-known .given i .fits; answers = let g = opening-good _ _ (c .before .before .before .before .before .before .open-book .ensures .told) (c .before .before .before .n .given .1) in let e = good-length g in answers-short _ _ _ _ (book-read _ (c .before .before .before .before .before .before .before .before .if1 .left) ∙ good-listed g) (omega (arith, c .before .if2 .taken)) (c .refused2 .ensures) }
 
 slice-aggregate-book : tie.Need-slice-aggregate-book
 slice-aggregate-book c = search needs
@@ -52,14 +52,14 @@ book-requires : tie.Need-book-requires
 book-requires c κs = search needs
 
 returns-3 : tie.Need-returns-3
-returns-3 c = answers-shut _ _ _ _ (book-read _ (c .before .before .before .before .before .before .if1 .left) ∙ bad-listed _ (opening-shut _ _ (c .before .before .before .before .open-book .ensures .told) (c .before .r .given .1)))
+returns-3 c = record { bytes = λ i. c .before .before .before .before .before .before .before .before .shared-slice-known .given i .fits; answers = answers-shut _ _ _ _ (book-read _ (c .before .before .before .before .before .before .if1 .left) ∙ bad-listed _ (opening-shut _ _ (c .before .before .before .before .open-book .ensures .told) (c .before .r .given .1))) }
 
 same-length : tie.Need-same-length
 same-length c = search needs
 
 returns-4 : tie.Need-returns-4
 unfolding open-book
-returns-4 c = let g = opening-good _ _ (c .before .before .before .before .before .before .before .before .before .before .before .before .before .before .open-book .ensures .told) (c .before .before .before .before .before .before .before .before .before .before .before .n .given .1) in let e = good-length g in answers-filled _ _ _ (book-read _ (c .before .before .before .before .before .before .before .before .before .before .before .before .before .before .before .before .if1 .left) ∙ good-listed g) (omega (arith, c .before .before .before .before .before .before .before .before .before .if2 .left)) (sym e) (listed-after a-book (in-bytes book-place a-book _ (g .is)) (c .before .before .before .before .book .ensures .0) (omega (arith, c .before .before .before .before .before .before .before .before .before .if2 .left)))
+returns-4 c = record { bytes = λ i. c .before .before .before .before .before .before .before .before .before .before .before .before .before .before .before .before .before .before .shared-slice-known .given i .fits; answers = let g = opening-good _ _ (c .before .before .before .before .before .before .before .before .before .before .before .before .before .before .open-book .ensures .told) (c .before .before .before .before .before .before .before .before .before .before .before .n .given .1) in let e = good-length g in answers-filled _ _ _ (book-read _ (c .before .before .before .before .before .before .before .before .before .before .before .before .before .before .before .before .if1 .left) ∙ good-listed g) (omega (arith, c .before .before .before .before .before .before .before .before .before .if2 .left)) (sym e) (listed-after a-book (in-bytes book-place a-book _ (g .is)) (c .before .before .before .before .book .ensures .0) (omega (arith, c .before .before .before .before .before .before .before .before .before .if2 .left))) }
 
 pub read-book-spec : {M : Type 1} → statement M
 read-book-spec =

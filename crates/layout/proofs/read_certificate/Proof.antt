@@ -15,14 +15,14 @@ refused-requires c κs = search needs
 
 returns : tie.Need-returns
 unfolding w-of
-returns c = answers-refusal _ _ _ _ (certificate-book-long _ _ (c .before .if1 .taken)) (c .refused .ensures)
+returns c = record { book-bytes = λ i. c .before .before .before .before .shared-slice-known .given i .fits; bytes = λ i. c .before .before .before .shared-slice-known2 .given i .fits; answers = answers-refusal _ _ _ _ (certificate-book-long _ _ (c .before .if1 .taken)) (c .refused .ensures) }
 
 refused-requires-2 : tie.Need-refused-requires-2
 refused-requires-2 c κs = search needs
 
 returns-2 : tie.Need-returns-2
 unfolding w-of
-returns-2 c = answers-refusal _ _ _ _ (certificate-long _ _ (c .before .before .if1 .left) (c .before .if2 .taken)) (c .refused2 .ensures)
+returns-2 c = record { book-bytes = λ i. c .before .before .before .before .before .shared-slice-known .given i .fits; bytes = λ i. c .before .before .before .before .shared-slice-known2 .given i .fits; answers = answers-refusal _ _ _ _ (certificate-long _ _ (c .before .before .if1 .left) (c .before .if2 .taken)) (c .refused2 .ensures) }
 
 slice-aggregate-open-book : tie.Need-slice-aggregate-open-book
 slice-aggregate-open-book c = search needs
@@ -46,13 +46,13 @@ list-certificate-requires : tie.Need-list-certificate-requires
 list-certificate-requires c κs = (is-beside (c .before .before .before .before .before .before .open-book .ensures) (c .before .before .before .m .given .1) refl, omega (arith, c .before .before .before .before .before .before .before .before .if2 .left))
 
 returns-3 : tie.Need-returns-3
-returns-3 c = answers-shut _ _ _ _ (certificate-read _ _ (c .before .before .before .before .before .before .before .if1 .left) (c .before .before .before .before .before .before .if2 .left) ∙ listing-bad _ _ (opening-shut _ _ (c .before .before .before .before .open-book .ensures .told) (c .before .r .given .1)))
+returns-3 c = record { book-bytes = λ i. c .before .before .before .before .before .before .before .before .before .before .shared-slice-known .given i .fits; bytes = λ i. c .before .before .before .before .before .before .before .before .before .shared-slice-known2 .given i .fits; answers = answers-shut _ _ _ _ (certificate-read _ _ (c .before .before .before .before .before .before .before .if1 .left) (c .before .before .before .before .before .before .if2 .left) ∙ listing-bad _ _ (opening-shut _ _ (c .before .before .before .before .open-book .ensures .told) (c .before .r .given .1))) }
 
 same-length : tie.Need-same-length
 same-length c = search needs
 
 returns-4 : tie.Need-returns-4
-returns-4 c = rw (certificate-read _ _ (c .before .before .before .before .before .before .before .before .before .before .before .before .if1 .left) (c .before .before .before .before .before .before .before .before .before .before .before .if2 .left)) (c .before .before .list-certificate .ensures)
+returns-4 c = record { book-bytes = λ i. c .before .before .before .before .before .before .before .before .before .before .before .before .before .before .before .shared-slice-known .given i .fits; bytes = λ i. c .before .before .before .before .before .before .before .before .before .before .before .before .before .before .shared-slice-known2 .given i .fits; answers = rw (certificate-read _ _ (c .before .before .before .before .before .before .before .before .before .before .before .before .if1 .left) (c .before .before .before .before .before .before .before .before .before .before .before .if2 .left)) (c .before .before .list-certificate .ensures) }
 
 pub read-certificate-spec : {M : Type 1} → statement M
 read-certificate-spec =

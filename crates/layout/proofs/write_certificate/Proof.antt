@@ -15,7 +15,7 @@ refused-requires c κs = search needs
 
 returns : tie.Need-returns
 unfolding w-of
-returns c = answers-refusal _ _ _ _ (writing-book-long _ _ (c .before .if1 .taken)) (c .refused .ensures)
+returns c = record { book-bytes = λ i. c .before .before .before .before .shared-slice-known .given i .fits; answers = answers-refusal _ _ _ _ (writing-book-long _ _ (c .before .if1 .taken)) (c .refused .ensures) }
 
 slice-aggregate-open-book : tie.Need-slice-aggregate-open-book
 slice-aggregate-open-book c = search needs
@@ -39,13 +39,13 @@ pack-certificate-requires : tie.Need-pack-certificate-requires
 pack-certificate-requires c κs = is-beside (c .before .before .before .before .before .before .open-book .ensures) (c .before .before .before .m .given .1) refl
 
 returns-2 : tie.Need-returns-2
-returns-2 c = answers-shut _ _ _ _ (certificate-written _ _ (c .before .before .before .before .before .before .if1 .left) ∙ writing-bad _ _ (opening-shut _ _ (c .before .before .before .before .open-book .ensures .told) (c .before .r .given .1)))
+returns-2 c = record { book-bytes = λ i. c .before .before .before .before .before .before .before .before .before .shared-slice-known .given i .fits; answers = answers-shut _ _ _ _ (certificate-written _ _ (c .before .before .before .before .before .before .if1 .left) ∙ writing-bad _ _ (opening-shut _ _ (c .before .before .before .before .open-book .ensures .told) (c .before .r .given .1))) }
 
 same-length : tie.Need-same-length
 same-length c = search needs
 
 returns-3 : tie.Need-returns-3
-returns-3 c = rw (certificate-written _ _ (c .before .before .before .before .before .before .before .before .before .before .before .if1 .left)) (c .before .before .pack-certificate .ensures)
+returns-3 c = record { book-bytes = λ i. c .before .before .before .before .before .before .before .before .before .before .before .before .before .before .shared-slice-known .given i .fits; answers = rw (certificate-written _ _ (c .before .before .before .before .before .before .before .before .before .before .before .if1 .left)) (c .before .before .pack-certificate .ensures) }
 
 pub write-certificate-spec : {M : Type 1} → statement M
 write-certificate-spec =

@@ -1,0 +1,2 @@
+-- What the two judges promise.
+pub mod Judged
