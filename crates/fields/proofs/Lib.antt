@@ -11,5 +11,6 @@ pub mod Found
 pub mod Trips
 pub mod Always
 pub mod Many
+pub mod Rounds
 pub mod Outcomes
 pub mod Widths
