@@ -131,16 +131,23 @@ fn rules(
     ensures walked { λ r. ⌜ Ran (from (now (s .entry)) (now (l .entry))) (rules-of (arityAt (now (book .entry)) (now (l .entry)) listed) n) c (now (words .entry)) (now (bytes .entry)) nothing r (now (words .exit)) (now (bytes .exit)) ⌝ }
     ensures counted { λ r. ⌜ Counted (from (now (s .entry)) (now (l .entry))) (rules-of (arityAt (now (book .entry)) (now (l .entry)) listed) n) (state c (now (words .entry)) (now (bytes .entry))) k (now (counts .entry)) (now (counts .exit)) ⌝ }
 {
-    if n == 0 {
-        return Walk::On(0, c);
-    }
-    match rule(listed, book, s, l, words, bytes, c) {
-        Walk::No(m, d) => Walk::No(m, d),
-        Walk::On(m, d) => {
-            note(counts, k, m as u8);
-            rules(listed, book, s, l, words, bytes, counts, d, k + 1, n - 1)
+    let mut at = c;
+    let mut place = k;
+    let mut left = n;
+    while left > 0 {
+        match rule(listed, book, s, l, words, bytes, at) {
+            Walk::No(m, d) => {
+                return Walk::No(m, d);
+            }
+            Walk::On(m, d) => {
+                note(counts, place, m as u8);
+                at = d;
+            }
         }
+        place += 1;
+        left -= 1;
     }
+    Walk::On(0, at)
 }
 
 // The rules: a count, which is handed back, and each rule.

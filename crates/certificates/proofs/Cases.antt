@@ -1,28 +1,25 @@
 -- The cases of the grammar of certificates, as the code meets them.
-use Prim.Native.Nat.{ℕ, zero, suc, _+_, _-_}
+use Prim.Native.Nat.{ℕ, _+_}
 use mathlib.Core.Path.{_≡_, refl}
-use mathlib.Core.List.{List, _∷_}
+use mathlib.Core.List.{List, [], _∷_}
 use mathlib.Core.Option.{none, some}
 use mathlib.Core.Logic.{_≢_}
-use native.Mathlib.Omega.{arith}
 use borrow.Author.Tests.{eq-eqb, ne-eqb}
 use lib.ListN.{getD, set}
+use Rattle.bits.specs.Put.{putField}
 use Rattle.fields.specs.declared.Cursor.{Cursor}
 use Rattle.fields.specs.declared.Field.{Field}
 use Rattle.fields.specs.declared.Field.the-variants.{Got, Bad}
-use Rattle.fields.specs.declared.Walk.{Walk}
 use Rattle.fields.specs.declared.Walk.the-variants.{On, No}
 use Rattle.fields.specs.Source.{Source, onward}
-use Rattle.fields.specs.Grammar.{done, bind, field}
-use Rattle.fields.specs.Run.{Ran}
-use Rattle.fields.proofs.Seqs.{ran-done}
-use Rattle.grammar.specs.Terms.{any-term}
 use Rattle.fields.specs.Kinds.{one-call}
 use Rattle.fields.specs.Kinds.{Kind as kind}
+use Rattle.fields.specs.Grammar.{done, bind, field}
+use Rattle.fields.specs.Run.{Ran}
 use Rattle.fields.proofs.Runs.{field-bad, field-refused, field-in}
-use Rattle.bits.specs.Put.{putField}
+use Rattle.fields.proofs.Rounds.{Rounds}
+use Rattle.grammar.specs.Terms.{any-term}
 use Rattle.grammar.specs.Certificates.{a-right-if, an-unfold, a-descent, a-kind, a-line, lines-of}
-use Rattle.terms.specs.Values.{nothing}
 
 -- ---- a bit that says whether a right follows
 
@@ -62,19 +59,7 @@ module _ (ar : ℕ → ℕ) (ms : List ℕ) (line tag : ℕ) where
 
 -- ---- lines
 
-module _ {src : Source} (ar : ℕ → ℕ) (ms : List ℕ) (n first : ℕ) {c : Cursor} {ws bs : List ℕ} where
-  pub lines-none : n ≡ 0 → Ran src (lines-of ar ms n first) c ws bs nothing (On 0 c) ws bs
-  unfolding lines-of
-  lines-none h = go n h
-    where
-      go : (n : ℕ) → n ≡ 0 → Ran src (lines-of ar ms n first) c ws bs nothing (On 0 c) ws bs
-      go zero h = ran-done _ c ws bs
-      go (suc n) h = absurd (omega arith)
-
-pub lines-some : {src : Source} (ar : ℕ → ℕ) (ms : List ℕ) (n first : ℕ) {c : Cursor} {ws bs ws₁ bs₁ : List ℕ} {r : Walk} → n ≢ 0
-    → Ran src (bind (a-line ar ms first) λ l. bind (lines-of ar ms (n - 1) (first + 1)) λ ls. done (l ∷ ls)) c ws bs nothing r
-    ws₁ bs₁
-    → Ran src (lines-of ar ms n first) c ws bs nothing r ws₁ bs₁
+pub lines-rounds : (ar : ℕ → ℕ) (ms : List ℕ)
+    → Rounds (lines-of ar ms) (a-line ar ms) (λ line l. line + 1) _∷_ (λ line. [])
 unfolding lines-of
-lines-some ar ms zero first h k = absurd (h refl)
-lines-some ar ms (suc n) first h k = let e : suc n - 1 ≡ n = omega arith in rw e at k
+lines-rounds ar ms = record { none = λ line. refl; more = λ n line. refl }

@@ -202,13 +202,22 @@ fn lines(
     requires { ⌜ (length (now counts) < 256) × (first + n ≤ 256) ⌝ }
     ensures { λ r. ⌜ Ran (from (now (s .entry)) (now (l .entry))) (lines-of (arityAt (now (book .entry)) (now (l .entry)) false) (now (counts .entry)) n first) c (now (words .entry)) (now (bytes .entry)) nothing r (now (words .exit)) (now (bytes .exit)) ⌝ }
 {
-    if n == 0 {
-        return Walk::On(0, c);
+    let mut at = c;
+    let mut number = first;
+    let mut left = n;
+    while left > 0 {
+        match line(book, counts, s, l, words, bytes, at, number) {
+            Walk::No(m, d) => {
+                return Walk::No(m, d);
+            }
+            Walk::On(_, d) => {
+                at = d;
+            }
+        }
+        number += 1;
+        left -= 1;
     }
-    match line(book, counts, s, l, words, bytes, c, first) {
-        Walk::No(m, d) => Walk::No(m, d),
-        Walk::On(_, d) => lines(book, counts, s, l, words, bytes, d, n - 1, first + 1),
-    }
+    Walk::On(0, at)
 }
 
 // The step and the start of a closing, together at most 4,095: the start.

@@ -12,6 +12,7 @@ pub mod Found
 pub mod Trips
 pub mod Always
 pub mod Many
+pub mod Rounds
 pub mod Outcomes
 pub mod Leads
 pub mod Stops

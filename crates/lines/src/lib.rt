@@ -128,13 +128,22 @@ fn lines(book: &[u8], certificate: &[u8], w: &mut [u64], at: usize, k: usize, n:
     requires { ⌜ (8192 ≤ length (now w)) × (k + n ≤ 255) ⌝ }
     ensures { λ r. ⌜ LinesAt (now (book .entry)) (now (certificate .entry)) at k n (now (w .entry)) (now (w .exit)) r ⌝ }
 {
-    if n == 0 {
-        return closing(book, certificate, w, at);
+    let mut next = at;
+    let mut number = k;
+    let mut left = n;
+    while left > 0 {
+        match line(book, certificate, w, next, number) {
+            Found::Fault(m, part) => {
+                return refused(m, Place::Line, number, part);
+            }
+            Found::Good(end) => {
+                next = end;
+            }
+        }
+        number += 1;
+        left -= 1;
     }
-    match line(book, certificate, w, at, k) {
-        Found::Fault(number, part) => refused(number, Place::Line, k, part),
-        Found::Good(next) => lines(book, certificate, w, next, k + 1, n - 1),
-    }
+    closing(book, certificate, w, next)
 }
 
 // The table made ready: no filling in the first filling table, and the begins of the rules.

@@ -16,26 +16,15 @@ use Rattle.fields.specs.Kinds.{from-to}
 use Rattle.fields.specs.Kinds.{Kind as kind}
 use Rattle.fields.specs.Grammar.{done, bind, field}
 use Rattle.fields.specs.Run.{state, Ran}
-use Rattle.fields.proofs.Seqs.{found, ran-done}
+use Rattle.fields.proofs.Rounds.{Rounds}
+use Rattle.fields.proofs.Seqs.{found}
 use Rattle.fields.proofs.Always.{Always, always-bind, always-then, always-run, field-below}
 use Rattle.grammar.specs.Terms.{a-pair, pairs-of, any-term}
-use Rattle.terms.specs.Values.{firstOf, nothing}
+use Rattle.terms.specs.Values.{firstOf}
 
-module _ {src : Source} (ar : ℕ → ℕ) (n least : ℕ) {c : Cursor} {ws bs : List ℕ} where
-  pub pairs-none : n ≡ 0 → Ran src (pairs-of ar n least) c ws bs nothing (On 0 c) ws bs
-  unfolding pairs-of
-  pairs-none h = go n h
-    where
-      go : (n : ℕ) → n ≡ 0 → Ran src (pairs-of ar n least) c ws bs nothing (On 0 c) ws bs
-      go zero h = ran-done _ c ws bs
-      go (suc n) h = absurd (omega arith)
-
-pub pairs-some : {src : Source} (ar : ℕ → ℕ) (n least : ℕ) {c : Cursor} {ws bs ws₁ bs₁ : List ℕ} {r : Walk} → n ≢ 0
-    → Ran src (bind (a-pair ar least) λ p. bind (pairs-of ar (n - 1) (p .0 + 1)) λ ps. done (p ∷ ps)) c ws bs nothing r ws₁ bs₁
-    → Ran src (pairs-of ar n least) c ws bs nothing r ws₁ bs₁
+pub pairs-rounds : (ar : ℕ → ℕ) → Rounds (pairs-of ar) (a-pair ar) (λ least p. p .0 + 1) _∷_ (λ least. [])
 unfolding pairs-of
-pairs-some ar zero least h k = absurd (h refl)
-pairs-some ar (suc n) least h k = let e : suc n - 1 ≡ n = omega arith in rw e at k
+pairs-rounds ar = record { none = λ least. refl; more = λ n least. refl }
 
 -- a variable in a file is below 64
 pub pair-small : {src : Source} (ar : ℕ → ℕ) (least : ℕ) {c d : Cursor} {ws bs ws₁ bs₁ : List ℕ} {r : Walk} {x : ℕ}

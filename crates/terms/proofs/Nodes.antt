@@ -12,12 +12,13 @@ use Rattle.fields.specs.declared.Cursor.{Cursor}
 use Rattle.fields.specs.declared.Walk.{Walk}
 use Rattle.fields.specs.declared.Walk.the-variants.{On, No}
 use Rattle.fields.specs.Source.{Source}
-use Rattle.patterns.specs.Term.{cons}
+use Rattle.patterns.specs.Term.{nil, cons}
 use Rattle.fields.specs.Kinds.{any, node}
 use Rattle.fields.specs.Kinds.{Kind as kind}
 use Rattle.fields.specs.Grammar.{Grammar, done, bind, field}
 use Rattle.fields.specs.Run.{state, Ran}
-use Rattle.fields.proofs.Seqs.{found, ran-spent, ran-done}
+use Rattle.fields.proofs.Rounds.{Rounds}
+use Rattle.fields.proofs.Seqs.{found, ran-spent}
 use Rattle.fields.proofs.Always.{Always, always-bind, always-then, always-run, always-weaken}
 use Rattle.grammar.specs.Terms.{Grown, GrownAll, a-symbol, a-raise, a-variable, an-applied, a-raised, a-node, a-term, args-of}
 use Rattle.terms.specs.Values.{leftOf, leftOfAll}
@@ -57,24 +58,12 @@ module _ (term : ℕ → ℕ → Grammar Grown) (ar : ℕ → ℕ) (end above le
 
 -- ---- arguments
 
-module _ {src : Source} (term : ℕ → Grammar Grown) (n left : ℕ) {c : Cursor} {ws bs : List ℕ} where
-  pub args-none : n ≡ 0 → Ran src (args-of term n left) c ws bs leftOfAll (On left c) ws bs
-  unfolding args-of
-  args-none h = go n h
-    where
-      go : (n : ℕ) → n ≡ 0 → Ran src (args-of term n left) c ws bs leftOfAll (On left c) ws bs
-      go zero h = ran-done _ c ws bs
-      go (suc n) h = absurd (omega arith)
-
-pub args-some : {src : Source} (term : ℕ → Grammar Grown) (n left : ℕ) {c : Cursor} {ws bs ws₁ bs₁ : List ℕ} {r : Walk} → n ≢ 0
-    → Ran src
-    (bind (term left) λ g.
-    bind (args-of term (n - 1) (g .left)) λ h. done (record { terms = cons (g .term) (h .terms); left = h .left }))
-    c ws bs leftOfAll r ws₁ bs₁
-    → Ran src (args-of term n left) c ws bs leftOfAll r ws₁ bs₁
+pub args-rounds : (term : ℕ → Grammar Grown)
+    → Rounds (args-of term) term (λ left g. g .left)
+    (λ g h. record { terms = cons (g .term) (h .terms); left = h .left })
+    (λ left. record { terms = nil; left = left })
 unfolding args-of
-args-some term zero left h k = absurd (h refl)
-args-some term (suc n) left h k = let e : suc n - 1 ≡ n = omega arith in rw e at k
+args-rounds term = record { none = λ left. refl; more = λ n left. refl }
 
 -- ---- the allowance falls
 

@@ -247,13 +247,22 @@ fn args(
 ) -> Walk
     ensures { λ r. ⌜ ((deep : ℕ) → left ≤ deep → Ran (from (now (s .entry)) (now (l .entry))) (args-of (λ k. a-term deep (arityAt (now (book .entry)) (now (l .entry)) (mode .listed)) (mode .end) 0 256 k) n left) c (now (words .entry)) (now (bytes .entry)) leftOfAll r (now (words .exit)) (now (bytes .exit))) ⌝ }
 {
-    if n == 0 {
-        return Walk::On(left, c);
+    let mut at = c;
+    let mut more = n;
+    let mut rest = left;
+    while more > 0 {
+        match term(mode, book, s, l, words, bytes, at, 0, 256, rest) {
+            Walk::No(m, d) => {
+                return Walk::No(m, d);
+            }
+            Walk::On(k, d) => {
+                at = d;
+                rest = k;
+            }
+        }
+        more -= 1;
     }
-    match term(mode, book, s, l, words, bytes, c, 0, 256, left) {
-        Walk::No(m, d) => Walk::No(m, d),
-        Walk::On(k, d) => args(mode, book, s, l, words, bytes, d, n - 1, k),
-    }
+    Walk::On(rest, at)
 }
 
 // A term of a certificate, of at most 256 nodes; the book stands in its bytes.
@@ -324,13 +333,22 @@ fn pairs(
 ) -> Walk
     ensures { λ r. ⌜ Ran (from (now (s .entry)) (now (l .entry))) (pairs-of (arityAt (now (book .entry)) (now (l .entry)) false) n least) c (now (words .entry)) (now (bytes .entry)) nothing r (now (words .exit)) (now (bytes .exit)) ⌝ }
 {
-    if n == 0 {
-        return Walk::On(0, c);
+    let mut at = c;
+    let mut next = least;
+    let mut left = n;
+    while left > 0 {
+        match pair(book, s, l, words, bytes, at, next) {
+            Walk::No(m, d) => {
+                return Walk::No(m, d);
+            }
+            Walk::On(x, d) => {
+                at = d;
+                next = x as u16 + 1;
+            }
+        }
+        left -= 1;
     }
-    match pair(book, s, l, words, bytes, c, least) {
-        Walk::No(m, d) => Walk::No(m, d),
-        Walk::On(x, d) => pairs(book, s, l, words, bytes, d, n - 1, x as u16 + 1),
-    }
+    Walk::On(0, at)
 }
 
 // A filling: a count, and that many pairs.

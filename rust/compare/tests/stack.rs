@@ -2,10 +2,13 @@
 //! this, so it is tried: on a thread whose stack is this large, a call that needs more
 //! ends the program.
 
+mod outcome;
+
 use compare::proved::{Proved, Side};
+use outcome::outcome;
 use text::vectors::{in_words, parse_vectors, Vector};
 
-const STACK: usize = 384 * 1_024;
+const STACK: usize = 192 * 1_024;
 
 fn deepest() -> Vec<Vector> {
     let text = include_str!("../../../data/deep.txt");
@@ -19,20 +22,19 @@ fn with_small_stack<T: Send + 'static>(call: impl FnOnce() -> T + Send + 'static
 }
 
 #[test]
-fn judging() {
+fn every_deep_vector_gets_its_answer() {
     for vector in deepest() {
-        let expected = vector.answer.clone();
-        let found = with_small_stack(move || {
-            let mut work = vec![0; gearcinder::WORK_NUMBERS];
-            Proved.judge(vector.first.bytes(), vector.second.bytes(), &mut work)
-        });
-        assert_eq!(second::verdict_line(&found), expected);
+        let (name, expected) = (vector.name.clone(), vector.outcome());
+        assert_eq!(with_small_stack(move || outcome(&vector)), Some(expected), "{name}");
     }
 }
 
 #[test]
-fn reading_and_writing() {
-    for vector in deepest() {
+fn the_accepted_files_are_read_and_written() {
+    let accepted = |vector: &Vector| vector.answer.starts_with("accept");
+    let vectors: Vec<Vector> = deepest().into_iter().filter(accepted).collect();
+    assert!(!vectors.is_empty());
+    for vector in vectors {
         let (book, certificate) = (vector.first.bytes().to_vec(), vector.second.bytes().to_vec());
         let lengths = [book.len(), certificate.len()];
         let found = with_small_stack(move || {

@@ -1,36 +1,10 @@
 //! The vectors of data/, through the bindings.
 
-use compare::proved::{Proved, Side};
-use std::path::Path;
-use text::vectors::{
-    in_words, parse_vectors, sum, Operation, Outcome, Vector, FRESH_BYTE, FRESH_FIELD, FRESH_WORK,
-};
+mod outcome;
 
-/// What the proved side makes of a vector; it has no operation for a whole input.
-fn outcome(vector: &Vector) -> Option<Outcome> {
-    let (first, second) = (&vector.first, &vector.second);
-    let mut work = vec![FRESH_WORK; vector.lent];
-    let mut list = vec![FRESH_FIELD; vector.lent];
-    let mut bytes = vec![FRESH_BYTE; vector.lent];
-    let (answer, left) = match vector.operation {
-        Operation::Input => return None,
-        Operation::Judge => {
-            let verdict = Proved.judge(first.bytes(), second.bytes(), &mut work);
-            (second::verdict_line(&verdict), sum(work))
-        }
-        Operation::ReadBook => (in_words(Proved.read_book(first.bytes(), &mut list)), sum(list)),
-        Operation::ReadCertificate => {
-            let answer = Proved.read_certificate(first.bytes(), second.bytes(), &mut list);
-            (in_words(answer), sum(list))
-        }
-        Operation::WriteBook => (in_words(Proved.write_book(first.list(), &mut bytes)), sum(bytes)),
-        Operation::WriteCertificate => {
-            let answer = Proved.write_certificate(first.bytes(), second.list(), &mut bytes);
-            (in_words(answer), sum(bytes))
-        }
-    };
-    Some(Outcome { answer, left })
-}
+use outcome::outcome;
+use std::path::Path;
+use text::vectors::parse_vectors;
 
 #[test]
 fn every_vector_gets_its_answer() {

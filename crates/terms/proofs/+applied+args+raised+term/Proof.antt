@@ -1,14 +1,19 @@
 -- `terms::applied` and `terms::args` and `terms::raised` and `terms::term` meet their contracts.
-use mathlib.Core.Path.{refl}
+use mathlib.Core.Path.{_≡_, refl}
 use native.Mathlib.Omega.{arith}
 use Rattle.fields.specs.Kinds.{Kind as kind}
 use Rattle.fields.proofs.Ranges.{node-bounded}
+use lib.ListN.{length}
+use Rattle.fields.specs.Source.{from}
 use Rattle.fields.proofs.Seqs.{seq-no, seq-on, seq-at, seq-last}
-use Rattle.grammar.specs.Terms.{an-applied, a-raised}
+use Rattle.fields.proofs.Rounds.{Leads, leads-here, rounds-end, rounds-no, rounds-on}
+use Rattle.grammar.specs.Terms.{an-applied, a-raised, a-term, args-of}
+use Rattle.terms.specs.Arity.{arityAt}
+use Rattle.terms.specs.Values.{leftOfAll}
 use Rattle.terms.proofs.Symbols.{symbol-few}
-use Rattle.terms.proofs.Nodes.{term-none, term-some, node-variable, node-applied, node-raised, args-none, args-some, term-left}
+use Rattle.terms.proofs.Nodes.{term-none, term-some, node-variable, node-applied, node-raised, args-rounds, term-left}
 use borrow.Author.Needs.{needs}
-use Prim.Native.Nat.{ℕ, _+_, _*_, _<_}
+use Prim.Native.Nat.{ℕ, _+_, _*_, _≤_, _<_}
 use borrow.Fn.Kinds.{In}
 use borrow.Fn.PlainCycle.{Measures, is, falls, and}
 use Rattle.terms.proofs.applied.Reads as applied
@@ -148,98 +153,145 @@ applied-returns-2 : (t : ℕ) → applied-lts.Need-returns-2 (
 unfolding an-applied
 applied-returns-2 t c = λ deep h. seq-on (c .before .before .before .before .before .before .before .before .before .before .before .before .before .before .symbol .ensures) _ (c .before .before .before .before .before .before .before .before .n .given .1) (λ f q. seq-last _ (λ g. refl) (rw q (c .before .before .before .before .args2 .ensures deep h)))
 
-args-returns :
-    (t : ℕ) →
-    args-lts.Need-returns (term-below t, term.Post, args-below t, args.Post) (args-at t) args.Post
-args-returns t c = λ deep h. args-none _ _ _ (c .if1 .taken)
+abbrev args-Inv-loop : args-lts.InvT-loop
+args-Inv-loop mode book s l words₀ bytes₀ n left at₀ more₀ rest₀ words bytes at more rest =
+    (length words ≡ length words₀) × (length bytes ≡ length bytes₀) × (rest ≤ left)
+    × ((deep : ℕ) → left ≤ deep
+    → Leads (from s l) (args-of (λ k. a-term deep (arityAt book l (mode .listed)) (mode .end) 0 256 k) n left) at₀ words₀ bytes₀
+    leftOfAll (args-of (λ k. a-term deep (arityAt book l (mode .listed)) (mode .end) 0 256 k) more rest) at words bytes leftOfAll)
 
-args-term-requires : (t : ℕ) → args-lts.Need-term-requires (
-  term-below t,
-  term.Post,
-  args-below t,
-  args.Post,
-) (args-at t) args.Post
+abbrev args-μ-loop : args-lts.MeasureT-loop
+args-μ-loop mode book s l words₀ bytes₀ n left at₀ more₀ rest₀ words bytes at more rest = more
+
+args-loop-holds :
+    (t : ℕ) →
+    args-lts.Need-loop-holds
+    (term-below t, term.Post)
+    (args-at t)
+    args.Post
+    args-Inv-loop
+    args-μ-loop
+args-loop-holds t c = (refl, refl, search needs, λ deep h. leads-here)
+
+args-term-requires :
+    (t : ℕ) →
+    args-lts.Need-term-requires
+    (term-below t, term.Post)
+    (args-at t)
+    args.Post
+    args-Inv-loop
+    args-μ-loop
 args-term-requires t c κs = search needs
 
-args-enum-known-m : (t : ℕ) → args-lts.Need-enum-known-m (
-  term-below t,
-  term.Post,
-  args-below t,
-  args.Post,
-) (args-at t) args.Post
+args-enum-known-m :
+    (t : ℕ) →
+    args-lts.Need-enum-known-m
+    (term-below t, term.Post)
+    (args-at t)
+    args.Post
+    args-Inv-loop
+    args-μ-loop
 args-enum-known-m t c = search needs
 
-args-enum-known-k : (t : ℕ) → args-lts.Need-enum-known-k (
-  term-below t,
-  term.Post,
-  args-below t,
-  args.Post,
-) (args-at t) args.Post
-args-enum-known-k t c = search needs
-
-args-sub-args : (t : ℕ) → args-lts.Need-sub-args (
-  term-below t,
-  term.Post,
-  args-below t,
-  args.Post,
-) (args-at t) args.Post
-args-sub-args t c = search needs
-
-args-args-requires : (t : ℕ) → args-lts.Need-args-requires (
-  term-below t,
-  term.Post,
-  args-below t,
-  args.Post,
-) (args-at t) args.Post
-args-args-requires t c κs = let h = term-left _ _ _ _ _ _ (c .before .before .before .before .before .before .before .before .before .term .ensures (c .before .before .before .before .before .before .before .before .before .before .before .before .before .before .before .before .before .before .args .left) (omega arith)) (c .before .before .before .k .given .1) in search needs
-
-args-same-length : (t : ℕ) → args-lts.Need-same-length (
-  term-below t,
-  term.Post,
-  args-below t,
-  args.Post,
-) (args-at t) args.Post
+args-same-length :
+    (t : ℕ) →
+    args-lts.Need-same-length
+    (term-below t, term.Post)
+    (args-at t)
+    args.Post
+    args-Inv-loop
+    args-μ-loop
 args-same-length t c = search needs
 
-args-same-length-2 : (t : ℕ) → args-lts.Need-same-length-2 (
-  term-below t,
-  term.Post,
-  args-below t,
-  args.Post,
-) (args-at t) args.Post
+args-same-length-2 :
+    (t : ℕ) →
+    args-lts.Need-same-length-2
+    (term-below t, term.Post)
+    (args-at t)
+    args.Post
+    args-Inv-loop
+    args-μ-loop
 args-same-length-2 t c = search needs
 
-args-returns-2 : (t : ℕ) → args-lts.Need-returns-2 (
-  term-below t,
-  term.Post,
-  args-below t,
-  args.Post,
-) (args-at t) args.Post
-args-returns-2 t c = λ deep h. args-some _ _ _ (c .before .before .before .before .before .before .before .before .before .before .if1 .left) (seq-no (c .before .before .before .before .before .before .before .term .ensures deep h) _ (c .before .m .given .1))
+args-returns :
+    (t : ℕ) →
+    args-lts.Need-returns
+    (term-below t, term.Post)
+    (args-at t)
+    args.Post
+    args-Inv-loop
+    args-μ-loop
+args-returns t c = λ deep h. rounds-no (args-rounds _) _ _ (c .before .before .before .before .before .before .before .before .before .before .before .loop .inv .3 deep h) (c .before .before .before .before .before .before .before .before .before .before .loop-test .taken) (c .before .before .before .before .before .before .before .term .ensures deep (omega arith)) (c .before .m .given .1)
 
-args-same-length-3 : (t : ℕ) → args-lts.Need-same-length-3 (
-  term-below t,
-  term.Post,
-  args-below t,
-  args.Post,
-) (args-at t) args.Post
+args-enum-known-k :
+    (t : ℕ) →
+    args-lts.Need-enum-known-k
+    (term-below t, term.Post)
+    (args-at t)
+    args.Post
+    args-Inv-loop
+    args-μ-loop
+args-enum-known-k t c = search needs
+
+args-sub-more :
+    (t : ℕ) →
+    args-lts.Need-sub-more
+    (term-below t, term.Post)
+    (args-at t)
+    args.Post
+    args-Inv-loop
+    args-μ-loop
+args-sub-more t c = search needs
+
+args-loop-less :
+    (t : ℕ) →
+    args-lts.Need-loop-less
+    (term-below t, term.Post)
+    (args-at t)
+    args.Post
+    args-Inv-loop
+    args-μ-loop
+args-loop-less t c = search needs
+
+args-loop-again :
+    (t : ℕ) →
+    args-lts.Need-loop-again
+    (term-below t, term.Post)
+    (args-at t)
+    args.Post
+    args-Inv-loop
+    args-μ-loop
+args-loop-again t c = (search needs, search needs, let e = term-left _ _ _ _ _ _ (c .before .before .before .before .before .before .before .term .ensures (c .before .before .before .before .before .before .before .before .before .before .before .loop .rest) (omega arith)) (c .before .k .given .1) in search needs, λ deep h. rounds-on (args-rounds _) _ _ (c .before .before .before .before .before .before .before .before .before .before .before .loop .inv .3 deep h) (c .before .before .before .before .before .before .before .before .before .before .loop-test .taken) (c .before .before .before .before .before .before .before .term .ensures deep (omega arith)) _ (c .before .k .given .1) (λ g e. e) (λ g b. refl))
+
+args-same-length-3 :
+    (t : ℕ) →
+    args-lts.Need-same-length-3
+    (term-below t, term.Post)
+    (args-at t)
+    args.Post
+    args-Inv-loop
+    args-μ-loop
 args-same-length-3 t c = search needs
 
-args-same-length-4 : (t : ℕ) → args-lts.Need-same-length-4 (
-  term-below t,
-  term.Post,
-  args-below t,
-  args.Post,
-) (args-at t) args.Post
+args-same-length-4 :
+    (t : ℕ) →
+    args-lts.Need-same-length-4
+    (term-below t, term.Post)
+    (args-at t)
+    args.Post
+    args-Inv-loop
+    args-μ-loop
 args-same-length-4 t c = search needs
 
-args-returns-3 : (t : ℕ) → args-lts.Need-returns-3 (
-  term-below t,
-  term.Post,
-  args-below t,
-  args.Post,
-) (args-at t) args.Post
-args-returns-3 t c = λ deep h. let e = term-left _ _ _ _ _ _ (c .before .before .before .before .before .before .before .before .before .before .before .before .before .before .term .ensures deep h) (c .before .before .before .before .before .before .before .before .k .given .1) in args-some _ _ _ (c .before .before .before .before .before .before .before .before .before .before .before .before .before .before .before .before .before .if1 .left) (seq-on (c .before .before .before .before .before .before .before .before .before .before .before .before .before .before .term .ensures deep h) _ (c .before .before .before .before .before .before .before .before .k .given .1) (λ g q. seq-last _ (λ x. refl) (rw q (c .before .before .before .before .args2 .ensures deep (omega arith)))))
+args-returns-2 :
+    (t : ℕ) →
+    args-lts.Need-returns-2
+    (term-below t, term.Post)
+    (args-at t)
+    args.Post
+    args-Inv-loop
+    args-μ-loop
+args-returns-2 t c = λ deep h. rounds-end (args-rounds _) _ _ (c .before .loop .inv .3 deep h) (c .loop-test .left)
 
 raised-raise-requires : (t : ℕ) → raised-lts.Need-raise-requires (
   raise-reads.Asked,
@@ -607,21 +659,24 @@ pub +applied+args+raised+term-spec : {M : Type 1} → statement M
     (applied-same-length-4 t)
     (applied-returns-2 t))
     (λ t. args-lts.spec
-    (term-below t, term.Post, args-below t, args.Post)
+    (term-below t, term.Post)
     (args-at t)
     args.Post
-    (args-returns t)
+    args-Inv-loop
+    args-μ-loop
+    (args-loop-holds t)
     (args-term-requires t)
     (args-enum-known-m t)
-    (args-enum-known-k t)
-    (args-sub-args t)
-    (args-args-requires t)
     (args-same-length t)
     (args-same-length-2 t)
-    (args-returns-2 t)
+    (args-returns t)
+    (args-enum-known-k t)
+    (args-sub-more t)
+    (args-loop-less t)
+    (args-loop-again t)
     (args-same-length-3 t)
     (args-same-length-4 t)
-    (args-returns-3 t))
+    (args-returns-2 t))
     (λ t. raised-lts.spec
     (raise-reads.Asked, raise-reads.Learnt, term-below t, term.Post)
     (raised-at t)

@@ -1,0 +1,106 @@
+-- `books::rules` meets its contract. The loop's invariant: the rules left lead to what the whole list comes to.
+use Prim.Native.Nat.{_+_, _≤_}
+use mathlib.Core.Path.{_≡_, refl}
+use lib.ListN.{length}
+use Rattle.fields.specs.Source.{from}
+use Rattle.fields.specs.Run.{state}
+use Rattle.fields.proofs.Rounds.{Leads, leads-here, plain-rounds, rounds-end, rounds-no, rounds-on}
+use Rattle.grammar.specs.Books.{rules-of}
+use Rattle.terms.specs.Arity.{arityAt}
+use Rattle.terms.specs.Values.{nothing}
+use Rattle.books.proofs.Counting.{rules-many, rule-few}
+use Rattle.books.proofs.Noting.{Notes, notes-here, notes-end, notes-no, notes-on}
+use borrow.Author.Needs.{needs}
+use Rattle.books.proofs.rules.Statement.{statement}
+use Rattle.books.proofs.rules.Tie as tie
+
+abbrev Inv-loop : tie.InvT-loop
+Inv-loop listed book s l words₀ bytes₀ counts₀ k n at₀ place₀ left₀ words bytes counts at place left =
+    (length words ≡ length words₀) × (length bytes ≡ length bytes₀) × (length counts ≡ length counts₀)
+    × (place + left ≤ 256)
+    × Leads (from s l) (rules-of (arityAt book l listed) n) at₀ words₀ bytes₀ nothing
+    (rules-of (arityAt book l listed) left) at words bytes nothing
+    × Notes (from s l) (rules-of (arityAt book l listed) n) (state at₀ words₀ bytes₀) k counts₀
+    (rules-of (arityAt book l listed) left) (state at words bytes) place counts
+
+abbrev μ-loop : tie.MeasureT-loop
+μ-loop listed book s l words₀ bytes₀ counts₀ k n at₀ place₀ left₀ words bytes counts at place left = left
+
+loop-holds : tie.Need-loop-holds Inv-loop μ-loop
+loop-holds c = (refl, refl, refl, search needs, leads-here, notes-here)
+
+rule-requires : tie.Need-rule-requires Inv-loop μ-loop
+rule-requires c κs = search needs
+
+enum-known-m : tie.Need-enum-known-m Inv-loop μ-loop
+enum-known-m c = search needs
+
+same-length : tie.Need-same-length Inv-loop μ-loop
+same-length c = search needs
+
+same-length-2 : tie.Need-same-length-2 Inv-loop μ-loop
+same-length-2 c = search needs
+
+same-length-3 : tie.Need-same-length-3 Inv-loop μ-loop
+same-length-3 c = search needs
+
+returns : tie.Need-returns Inv-loop μ-loop
+returns c = (rounds-no (plain-rounds (rules-many _)) _ 0 (c .before .before .before .before .before .before .before .before .before .before .before .loop .inv .4) (c .before .before .before .before .before .before .before .before .before .before .loop-test .taken) (c .before .before .before .before .before .before .before .rule .ensures) (c .before .m .given .1), notes-no _ _ _ (c .before .before .before .before .before .before .before .before .before .before .before .loop .inv .5) (c .before .before .before .before .before .before .before .before .before .before .loop-test .taken) (c .before .before .before .before .before .before .before .rule .ensures) (c .before .m .given .1))
+
+enum-known-m-2 : tie.Need-enum-known-m-2 Inv-loop μ-loop
+enum-known-m-2 c = search needs
+
+cast-note : tie.Need-cast-note Inv-loop μ-loop
+cast-note c = let h = rule-few _ (c .before .before .before .before .before .before .before .before .rule .ensures) (c .before .before .m2 .given .1) in search needs
+
+note-requires : tie.Need-note-requires Inv-loop μ-loop
+note-requires c κs = search needs
+
+add-place : tie.Need-add-place Inv-loop μ-loop
+add-place c = search needs
+
+sub-left : tie.Need-sub-left Inv-loop μ-loop
+sub-left c = search needs
+
+loop-less : tie.Need-loop-less Inv-loop μ-loop
+loop-less c = search needs
+
+loop-again : tie.Need-loop-again Inv-loop μ-loop
+loop-again c = (search needs, search needs, search needs, search needs, rounds-on (plain-rounds (rules-many _)) _ 0 (c .before .before .before .before .before .before .before .before .before .before .before .before .before .before .before .loop .inv .4) (c .before .before .before .before .before .before .before .before .before .before .before .before .before .before .loop-test .taken) (c .before .before .before .before .before .before .before .before .before .before .before .rule .ensures) 0 (c .before .before .before .before .before .m2 .given .1) (λ a e. refl) (λ a b. refl), notes-on _ _ _ (c .before .before .before .before .before .before .before .before .before .before .before .before .before .before .before .loop .inv .5) (c .before .before .before .before .before .before .before .before .before .before .before .before .before .before .loop-test .taken) (c .before .before .before .before .before .before .before .before .before .before .before .rule .ensures) (c .before .before .before .before .before .m2 .given .1) (c .before .before .note .ensures))
+
+same-length-4 : tie.Need-same-length-4 Inv-loop μ-loop
+same-length-4 c = search needs
+
+same-length-5 : tie.Need-same-length-5 Inv-loop μ-loop
+same-length-5 c = search needs
+
+same-length-6 : tie.Need-same-length-6 Inv-loop μ-loop
+same-length-6 c = search needs
+
+returns-2 : tie.Need-returns-2 Inv-loop μ-loop
+returns-2 c = (rounds-end (plain-rounds (rules-many _)) _ 0 (c .before .loop .inv .4) (c .loop-test .left), notes-end _ _ _ (c .before .loop .inv .5) (c .loop-test .left))
+
+pub rules-spec : {M : Type 1} → statement M
+rules-spec =
+    tie.close
+    (tie.spec
+    Inv-loop
+    μ-loop
+    loop-holds
+    rule-requires
+    enum-known-m
+    same-length
+    same-length-2
+    same-length-3
+    returns
+    enum-known-m-2
+    cast-note
+    note-requires
+    add-place
+    sub-left
+    loop-less
+    loop-again
+    same-length-4
+    same-length-5
+    same-length-6
+    returns-2)

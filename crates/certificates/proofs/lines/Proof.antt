@@ -1,0 +1,86 @@
+-- `certificates::lines` meets its contract. The loop's invariant: the lines left lead to what all lines come to.
+use Prim.Native.Nat.{_+_, _≤_}
+use mathlib.Core.Path.{_≡_, refl}
+use mathlib.Core.Bool.{false}
+use lib.ListN.{length}
+use Rattle.fields.specs.Source.{from}
+use Rattle.fields.proofs.Rounds.{Leads, leads-here, rounds-end, rounds-no, rounds-on}
+use Rattle.grammar.specs.Certificates.{lines-of}
+use Rattle.terms.specs.Arity.{arityAt}
+use Rattle.terms.specs.Values.{nothing}
+use Rattle.certificates.proofs.Cases.{lines-rounds}
+use borrow.Author.Needs.{needs}
+use Rattle.certificates.proofs.lines.Statement.{statement}
+use Rattle.certificates.proofs.lines.Tie as tie
+
+abbrev Inv-loop : tie.InvT-loop
+Inv-loop book counts s l words₀ bytes₀ n first at₀ number₀ left₀ words bytes at number left =
+    (length words ≡ length words₀) × (length bytes ≡ length bytes₀) × (number + left ≤ 256)
+    × Leads (from s l) (lines-of (arityAt book l false) counts n first) at₀ words₀ bytes₀ nothing
+    (lines-of (arityAt book l false) counts left number) at words bytes nothing
+
+abbrev μ-loop : tie.MeasureT-loop
+μ-loop book counts s l words₀ bytes₀ n first at₀ number₀ left₀ words bytes at number left = left
+
+loop-holds : tie.Need-loop-holds Inv-loop μ-loop
+loop-holds c = (refl, refl, search needs, leads-here)
+
+line-requires : tie.Need-line-requires Inv-loop μ-loop
+line-requires c κs = search needs
+
+enum-known-m : tie.Need-enum-known-m Inv-loop μ-loop
+enum-known-m c = search needs
+
+same-length : tie.Need-same-length Inv-loop μ-loop
+same-length c = search needs
+
+same-length-2 : tie.Need-same-length-2 Inv-loop μ-loop
+same-length-2 c = search needs
+
+returns : tie.Need-returns Inv-loop μ-loop
+returns c = rounds-no (lines-rounds _ _) _ _ (c .before .before .before .before .before .before .before .before .before .before .before .loop .inv .3) (c .before .before .before .before .before .before .before .before .before .before .loop-test .taken) (c .before .before .before .before .before .before .before .line .ensures) (c .before .m .given .1)
+
+enum-known-d : tie.Need-enum-known-d Inv-loop μ-loop
+enum-known-d c = search needs
+
+add-number : tie.Need-add-number Inv-loop μ-loop
+add-number c = search needs
+
+sub-left : tie.Need-sub-left Inv-loop μ-loop
+sub-left c = search needs
+
+loop-less : tie.Need-loop-less Inv-loop μ-loop
+loop-less c = search needs
+
+loop-again : tie.Need-loop-again Inv-loop μ-loop
+loop-again c = (search needs, search needs, search needs, rounds-on (lines-rounds _ _) _ _ (c .before .before .before .before .before .before .before .before .before .before .before .loop .inv .3) (c .before .before .before .before .before .before .before .before .before .before .loop-test .taken) (c .before .before .before .before .before .before .before .line .ensures) _ (c .before .d .given .1) (λ l e. refl) (λ l ls. refl))
+
+same-length-3 : tie.Need-same-length-3 Inv-loop μ-loop
+same-length-3 c = search needs
+
+same-length-4 : tie.Need-same-length-4 Inv-loop μ-loop
+same-length-4 c = search needs
+
+returns-2 : tie.Need-returns-2 Inv-loop μ-loop
+returns-2 c = rounds-end (lines-rounds _ _) _ _ (c .before .loop .inv .3) (c .loop-test .left)
+
+pub lines-spec : {M : Type 1} → statement M
+lines-spec =
+    tie.close
+    (tie.spec
+    Inv-loop
+    μ-loop
+    loop-holds
+    line-requires
+    enum-known-m
+    same-length
+    same-length-2
+    returns
+    enum-known-d
+    add-number
+    sub-left
+    loop-less
+    loop-again
+    same-length-3
+    same-length-4
+    returns-2)
