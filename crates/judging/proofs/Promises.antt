@@ -1,4 +1,4 @@
--- What `judge` and `judge_input` promise, over their own answers: demand 2, demand 3, the work table, and that no other answer fits.
+-- What `judge` and `judge_input` promise, over their own answers: demands 1, 2 and 3, the work table, and that no other answer fits.
 -- `Judged` and `JudgedInput` are their contracts.
 use mathlib.Core.Logic.{_↔_, _≢_}
 use mathlib.Core.Path.{_≡_, sym, _∙_, ap}
@@ -19,6 +19,8 @@ use Rattle.verdicts.specs.declared.Verdict.the-variants.{Accepted, Refused}
 use Rattle.verdicts.proofs.Demands.{accepts-exactly-when, refuses-exactly-when, accepted-never-gets-stuck}
 use Rattle.verdicts.proofs.Framing.{input-exactly, input-accepted-exactly-when, accepted-input-never-gets-stuck}
 use Rattle.verdicts.proofs.WorkTables.{work-kept, work-cleared, input-work-kept, input-work-cleared}
+use Rattle.verdicts.specs.InTable.{InTable}
+use Rattle.verdicts.proofs.JudgedTable.{judging-in-table, judging-input-in-table}
 use Rattle.verdicts.proofs.OneVerdict.{paper-tells, one-ruling}
 use Rattle.judging.specs.Judged.{Judged, JudgedInput}
 
@@ -42,6 +44,11 @@ module _ {book certificate work : List ℕ} {r : Ruling} {after : List ℕ} (j :
   refuses f =
       told-as r (Refused f) (j .answered)
       (refuses-exactly-when book certificate (j .book-bytes) (j .bytes) (length work) (paper-refusal f))
+
+  -- Demand 1: every refusal is one out of 01's table.
+  pub in-table : (f : Fault) → r ≡ Refused f → InTable (paper-refusal f)
+  unfolding paper
+  in-table f e = judging-in-table book certificate (length work) (paper-refusal f) (sym (j .answered) ∙ ap paper e)
 
   -- Demand 3: if it accepts, no call of the accepted family gets stuck.
   pub never-stuck : (a : Acceptance) → r ≡ Accepted a → NeverStuck book certificate (a .line) (a .alpha)
@@ -80,6 +87,10 @@ module _ {input work : List ℕ} {r : Ruling} {after : List ℕ} (j : JudgedInpu
   never-stuck-input a e =
       accepted-input-never-gets-stuck input (j .bytes) (length work) (a .line) (a .k) (a .alpha)
       (sym (j .answered) ∙ ap paper e)
+
+  pub in-table-input : (f : Fault) → r ≡ Refused f → InTable (paper-refusal f)
+  unfolding paper
+  in-table-input f e = judging-input-in-table input (length work) (paper-refusal f) (sym (j .answered) ∙ ap paper e)
 
   pub input-table-kept : paper r ≡ refusal-one → after ≡ work
   input-table-kept e = j .cleared ∙ input-work-kept input work (sym (j .answered) ∙ e)

@@ -12,6 +12,7 @@ pub mod CheckedTable
 pub mod AnsweredTable
 pub mod Framing
 pub mod WorkTables
+pub mod JudgedTable
 pub mod OneVerdict
 pub mod OneLine
 pub mod Compute

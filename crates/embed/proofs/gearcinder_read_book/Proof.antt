@@ -14,7 +14,7 @@ same-length : tie.Need-same-length
 same-length c = search needs
 
 returns : tie.Need-returns
-returns c = tells-file _ (c .before .before .before .read-book .ensures .answered) (c .before .before .before .read-book .ensures .filled) (c .answer-numbers .ensures)
+returns c = tells-file _ (c .before .before .before .read-book .ensures .answers .answered) (c .before .before .before .read-book .ensures .answers .filled) (c .answer-numbers .ensures)
 
 pub gearcinder-read-book-spec : {M : Type 1} → statement M
 gearcinder-read-book-spec =

@@ -14,7 +14,7 @@ same-length : tie.Need-same-length
 same-length c = search needs
 
 returns : tie.Need-returns
-returns c = tells-file _ (c .before .before .before .write-certificate .ensures .answered) (c .before .before .before .write-certificate .ensures .filled) (c .answer-numbers .ensures)
+returns c = tells-file _ (c .before .before .before .write-certificate .ensures .answers .answered) (c .before .before .before .write-certificate .ensures .answers .filled) (c .answer-numbers .ensures)
 
 pub gearcinder-write-certificate-spec : {M : Type 1} → statement M
 gearcinder-write-certificate-spec =
