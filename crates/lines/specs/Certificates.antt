@@ -49,7 +49,14 @@ pub record LineAt (book cert : List ℕ) (at k : ℕ) (w after : List ℕ) (r : 
       → Finds (line-checks one es B (l .claim) (l .kind)) (at + width (line-fields l)) r × Known book cert after ars B (es ++ (l .claim ∷ []))
   pub size : length after ≡ length w
 
--- the verdict of a closing whose filling stands in the table
+-- the checks of a closing whose filling stands in the table
+pub record ClosingFound (book cert : List ℕ) (line k α : ℕ) (w after : List ℕ) (r : Found) : Type 0 where
+  pub told : (ars : List ℕ) (B : Book Exp) (es : List (Claim Exp)) → Known book cert w ars B es
+      → (c : Closing Exp Pace) → c .line ≡ line → c .pace ≡ pace-of k α → Tells book cert w 896 (by (c .fills)) → c .line < length es
+      → (end : ℕ) × Finds (closing-checks one es c) end r
+  pub size : length after ≡ length w
+
+-- and its verdict
 pub record ClosingBy (book cert : List ℕ) (line k α : ℕ) (w after : List ℕ) (r : Ruling) : Type 0 where
   pub told : (ars : List ℕ) (B : Book Exp) (es : List (Claim Exp)) → Known book cert w ars B es
       → (c : Closing Exp Pace) → c .line ≡ line → c .pace ≡ pace-of k α → Tells book cert w 896 (by (c .fills)) → c .line < length es
