@@ -29,6 +29,7 @@ use Rattle.layout.specs.declared.Place.{Place}
 use Rattle.layout.specs.declared.Place.the-variants.{Certificate}
 use Rattle.layout.specs.Openings.{sight, seen, seen-bytes, seen-list, CertificateOpened, Beside}
 use Rattle.layout.specs.Answers.{w-of, Given, gives, refuses, listed, written, within, beside, reading-book, writing-book, listing-beside, writing-beside, reading-certificate, writing-certificate}
+use Rattle.layout.proofs.FieldNumbers.{Refuses, refuses-beside}
 use Rattle.layout.proofs.FileEnds.{words-after, bytes-after, bytes-seen, list-seen}
 use Rattle.layout.proofs.Answering.{Good}
 use Rattle.layout.proofs.Opens.{InBytes, InList}
@@ -102,15 +103,15 @@ module _ {A : Type 0} (p : Grammar A) {val : A → ℕ} {r : Walk} {a : A} {fs :
 
 -- ---- a book written
 
-pub list-told : {A : Type 0} (l : List ℕ) (p : Grammar A) (val : A → ℕ) {ws bs ws₁ bs₁ : List ℕ} {w : Walk} (o : Opening) (place : Place)
+pub list-told : {A : Type 0} (l : List ℕ) {p : Grammar A} (few : Refuses p) (val : A → ℕ) {ws bs ws₁ bs₁ : List ℕ} {w : Walk} (o : Opening) (place : Place)
     → Ran (from [] l) p (start true) ws bs val w ws₁ bs₁ → sight o ≡ seen-list (w-of place) l w
     → sight o ≡ seen val (open-list (w-of place) p l)
-list-told l p val o place h e = e ∙ list-seen l p val h (w-of place)
+list-told l {p} few val o place h e = e ∙ list-seen l p val h few (w-of place)
 
-pub bytes-told : {A : Type 0} (s : List ℕ) (p : Grammar A) (val : A → ℕ) {ws bs ws₁ bs₁ : List ℕ} {w : Walk} (o : Opening) (place : Place)
+pub bytes-told : {A : Type 0} (s : List ℕ) {p : Grammar A} (few : Refuses p) (val : A → ℕ) {ws bs ws₁ bs₁ : List ℕ} {w : Walk} (o : Opening) (place : Place)
     → Ran (from s []) p (start false) ws bs val w ws₁ bs₁ → sight o ≡ seen-bytes (w-of place) s w
     → sight o ≡ seen val (open-bytes (w-of place) p s)
-bytes-told s p val o place h e = e ∙ bytes-seen s p val h (w-of place)
+bytes-told s {p} few val o place h e = e ∙ bytes-seen s p val h few (w-of place)
 
 -- ---- a certificate beside its book
 
@@ -130,7 +131,7 @@ module _ (book counts : List ℕ) (h : Beside book counts) where
     told = λ b fs q.
         let same : good (h .tree) (h .fields) ≡ good b fs = sym (h .opened) ∙ q in
         subst (λ t. sight o ≡ seen nothing (open-certificate t s)) (cc same)
-        (bytes-told s (certificate-of (h .tree)) nothing o Certificate (beside-ran book [] counts h k) e);
+        (bytes-told s (refuses-beside (h .tree)) nothing o Certificate (beside-ran book [] counts h k) e);
   }
 
   pub certificate-is : (s : List ℕ) → listing-beside book s ≡ listed (open-certificate (h .tree) s)

@@ -8,3 +8,5 @@ pub mod RoundTrips
 pub mod OneAnswer
 pub mod OneFile
 pub mod Table
+pub mod FieldNumbers
+pub mod Carrying

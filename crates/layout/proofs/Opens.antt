@@ -26,6 +26,7 @@ use Rattle.layout.specs.declared.Place.the-variants.{Book}
 use Rattle.layout.specs.Files.{Opened, good, bad, refusal-at, ends-at, closed-bytes, open-bytes, closed-list, open-list, open-book}
 use Rattle.layout.specs.Answers.{w-of}
 use Rattle.layout.specs.Openings.{sight, seen, seen-bytes, BookOpened}
+use Rattle.layout.proofs.FieldNumbers.{refuses-book}
 use Rattle.layout.proofs.FileEnds.{bytes-seen}
 
 -- ---- a good file in bytes, and one in a list
@@ -106,7 +107,7 @@ pub book-opened : (s : List ℕ) {w : Walk} {ws bs ws₁ bs₁ cs cs₁ : List �
     → sight r ≡ seen-bytes (w-of Book) s w → BookOpened s r cs₁
 unfolding w-of
 book-opened s {w} {ws} {bs} {ws₁} {bs₁} {cs} {cs₁} h k room e = record {
-  told = e ∙ bytes-seen s a-book ruleCount h book-place ∙ unfold open-book in refl;
+  told = e ∙ bytes-seen s a-book ruleCount h refuses-book book-place ∙ unfold open-book in refl;
   noted = λ b fs q. notes b fs q;
 }
   where

@@ -12,7 +12,8 @@ use lib.Seq.{getD-set-same, getD-set-other}
 use Rattle.bits.specs.Packed.{width}
 use Rattle.bits.proofs.Groups.{width-append}
 use Rattle.patterns.specs.Term.{fill}
-use Rattle.patterns.specs.Refusal.{line-place, closing-place}
+use Rattle.patterns.specs.Every.{Every}
+use Rattle.patterns.specs.Refusal.{Refusal, line-place, closing-place}
 use Rattle.patterns.specs.First.{Exp, Pair, Pace, one, from, to}
 use Rattle.patterns.specs.Edition.{reindex}
 use Rattle.patterns.specs.Derive.{Book}
@@ -21,7 +22,9 @@ use Rattle.patterns.specs.Demand.{Met, met?, present}
 use Rattle.patterns.specs.Judge.{Check, check, compare, line-checks, loop-checks, closing-checks, Placed, place, checks-from, checks, first-unmet, accept, refuse, verdict, judge}
 use Rattle.grammar.specs.Listing.{if-any, term-fields, claim-fields, kind-fields, kind-number, line-fields, closing-fields, certificate-fields}
 use Rattle.grammar.specs.Limits.{KindFits, LinesFit, ClosingFits, call-counts}
+use Rattle.layout.specs.Carried.{carried}
 use Rattle.verdicts.specs.Verdicts.{paper}
+use Rattle.verdicts.proofs.Parted.{Parted, parted-line, parted-closing}
 use Rattle.verdicts.specs.declared.Verdict.{Verdict as Ruling}
 use Rattle.checking.specs.declared.Read.{Read}
 use Rattle.checking.specs.declared.Found.{Found}
@@ -41,7 +44,7 @@ use Rattle.checking.specs.Found.{fault, Finds}
 use Rattle.checking.specs.Asked.{asked-at, checks-of, end-of, Checks}
 use Rattle.unfolds.specs.Unfoldings.{UnfoldAt}
 use Rattle.descents.specs.Descents.{DescentAt}
-use Rattle.lines.specs.Certificates.{refusal-of, pace-of, NotesLine, KindAt, LineAt, ClosingFound, ClosingBy, ClosingAt, LinesAt, Prepares, JudgesLines}
+use Rattle.lines.specs.Certificates.{pace-of, NotesLine, KindAt, LineAt, ClosingFound, ClosingBy, ClosingAt, LinesAt, Prepares, JudgesLines}
 use Rattle.instances.proofs.Lying.{lies-front, lies-back}
 use Rattle.checking.proofs.Passing.{term-at}
 use Rattle.checking.proofs.Using.{rest-at}
@@ -180,6 +183,22 @@ line-at {book} {cert} {w} {v} {after} {at} {k} {right} {rest} {t} {r} tt' skips 
 
 -- ---- the verdict of placed checks
 
+abbrev refusal-of : ℕ → ℕ → ℕ → ℕ → Refusal
+refusal-of number w a b = record { number = number; w = w; a = a; b = b }
+
+-- the first check that is not met carries its line and its part
+fault-carried : (ks : List (Check Exp)) → Every Parted ks → (n p w a : ℕ) → fault ks ≡ some (n, p) → carried n w a p ≡ refusal-of n w a p
+unfolding fault Every
+fault-carried [] h n p w a e = let z : _≡_ {A = ℕ} 0 1 = cc in absurd (omega arith)
+fault-carried (k ∷ ks) h n p w a e = go (met? one (k .demand)) (λ x. fault-carried ks (h .1) n p w a x) e
+  where
+    go : (d : Dec (Met one (k .demand))) → (fault ks ≡ some (n, p) → carried n w a p ≡ refusal-of n w a p)
+        → ite d (fault ks) (some (k .number, k .part)) ≡ some (n, p) → carried n w a p ≡ refusal-of n w a p
+    go (yes q) rest x = rest x
+    go (no q) rest x =
+        let y : _≡_ {A = ℕ × ℕ} (k .number, k .part) (n, p) = Option·some-injective _ _ x in
+        subst (λ (z : ℕ × ℕ). carried (z .0) w a (z .1) ≡ refusal-of (z .0) w a (z .1)) y (h .0 .told w a)
+
 module _ (w a : ℕ) (ps : List (Placed one)) where
   placed-none : (ks : List (Check Exp)) → fault ks ≡ none → first-unmet one (map (place one w a) ks ++ ps) ≡ first-unmet one ps
   unfolding fault first-unmet
@@ -270,11 +289,13 @@ module _ {book cert w v : List ℕ} {left right : ℕ} {r : Found} (first : Chec
     }
 
 module _ {book cert w v : List ℕ} {line k α : ℕ} {f : Found} (found : ClosingFound book cert line k α w v f) where
-  pub closing-fault : {n p : ℕ} {r : Ruling} → f ≡ Fault n p → paper r ≡ refuse (refusal-of n closing-place line p) → ClosingBy book cert line k α w v r
+  pub closing-fault : {n p : ℕ} {r : Ruling} → f ≡ Fault n p → paper r ≡ refuse (carried n closing-place line p) → ClosingBy book cert line k α w v r
   closing-fault {n} {p} q e = record {
     told = λ ars B es known d i pc filled small.
-        e ∙ ap (λ a. refuse (refusal-of n closing-place a p)) (sym i)
-        ∙ sym (closed-fault (d .line) (closing-checks one es d) n p d (at-fault (found .told ars B es known d i pc filled small .1) q));
+        let first = at-fault (found .told ars B es known d i pc filled small .1) q in
+        e ∙ ap (λ a. refuse (carried n closing-place a p)) (sym i)
+        ∙ ap refuse (fault-carried (closing-checks one es d) (parted-closing one es d) n p closing-place (d .line) first)
+        ∙ sym (closed-fault (d .line) (closing-checks one es d) n p d first);
     size = found .size;
   }
 
@@ -315,7 +336,7 @@ lines-none {book} {cert} {w} {after} {at} {k} {n} {r} z p = record { told = go; 
     go ars B es known len (l ∷ ls) c e fits cf lies = absurd (omega arith)
 
 module _ {book cert w v : List ℕ} {at k n : ℕ} {f : Found} (ne : n ≢ 0) (small : k + n ≤ 255) (first : LineAt book cert at k w v f) where
-  pub lines-fault : {m p : ℕ} {r : Ruling} → f ≡ Fault m p → paper r ≡ refuse (refusal-of m line-place k p) → LinesAt book cert at k n w v r
+  pub lines-fault : {m p : ℕ} {r : Ruling} → f ≡ Fault m p → paper r ≡ refuse (carried m line-place k p) → LinesAt book cert at k n w v r
   unfolding flatMap checks-from LinesFit
   lines-fault {m} {p} {r} q e = record { told = go; size = first .size }
     where
@@ -327,7 +348,9 @@ module _ {book cert w v : List ℕ} {at k n : ℕ} {f : Found} (ne : n ≢ 0) (s
           let all = append-assoc (line-fields l) (flatMap line-fields ls) (closing-fields c) in
           let here = lies-front cert at (line-fields l) (flatMap line-fields ls ++ closing-fields c) (subst (Lies cert at) all lies) in
           let x = first .told ars B es known len (omega arith) l (fits .0) (fits .1) here in
-          e ∙ sym (placed-fault line-place k _ (line-checks one es B (l .claim) (l .kind)) m p c (at-fault (x .0) q))
+          let found = at-fault (x .0) q in
+          e ∙ ap refuse (fault-carried _ (parted-line one es B (l .claim) (l .kind)) m p line-place k found)
+          ∙ sym (placed-fault line-place k _ (line-checks one es B (l .claim) (l .kind)) m p c found)
 
   pub lines-on : {x : ℕ} {after : List ℕ} {r : Ruling} → f ≡ Good x → LinesAt book cert x (k + 1) (n - 1) v after r → LinesAt book cert at k n w after r
   unfolding flatMap checks-from LinesFit

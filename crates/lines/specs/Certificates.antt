@@ -4,7 +4,7 @@ use mathlib.Core.Path.{_≡_}
 use mathlib.Core.List.{List, [], _∷_, _++_, map, flatMap}
 use lib.ListN.{length, getD}
 use Rattle.bits.specs.Packed.{width}
-use Rattle.patterns.specs.Refusal.{Refusal, closing-place}
+use Rattle.patterns.specs.Refusal.{closing-place}
 use Rattle.patterns.specs.First.{Exp, Pair, Pace, one}
 use Rattle.patterns.specs.Derive.{Book}
 use Rattle.patterns.specs.Certificate.{by, Claim, Line, Closing, Certificate}
@@ -20,9 +20,6 @@ use Rattle.instances.specs.Fillings.{Fills as Tells}
 use Rattle.checking.specs.Placed.{Known-arities, RightAt, LeftAt}
 use Rattle.checking.specs.Known.{Below, Known}
 use Rattle.checking.specs.Found.{Finds}
-
-abbrev pub refusal-of : ℕ → ℕ → ℕ → ℕ → Refusal
-refusal-of number w a b = record { number = number; w = w; a = a; b = b }
 
 abbrev pub pace-of : ℕ → ℕ → Pace
 pace-of k α = record { k = k; α = α }

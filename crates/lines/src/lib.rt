@@ -4,16 +4,16 @@ use checking::Found;
 use checking::Kind;
 use checking::Subject;
 use layout::Place;
-use layout::Refusal;
 use verdicts::Acceptance;
 use verdicts::Verdict;
 ghost use mathlib.Core.Path.{_≡_};
 ghost use Prim.Native.Nat.{_+_, _≤_, _<_};
 ghost use lib.ListN.{length};
 ghost use Rattle.patterns.specs.Judge.{accept, refuse};
+ghost use Rattle.layout.specs.Carried.{carried};
 ghost use Rattle.layout.specs.Answers.{w-of};
 ghost use Rattle.verdicts.specs.Verdicts.{paper};
-ghost use Rattle.lines.specs.Certificates.{refusal-of, pace-of, NotesLine, KindAt, LineAt, ClosingFound, ClosingBy, ClosingAt, LinesAt, Prepares, JudgesLines};
+ghost use Rattle.lines.specs.Certificates.{pace-of, NotesLine, KindAt, LineAt, ClosingFound, ClosingBy, ClosingAt, LinesAt, Prepares, JudgesLines};
 
 // Where both sides of line k lie, noted.
 fn note_line(w: &mut [u64], k: usize, left: usize, right: usize)
@@ -116,16 +116,11 @@ fn closing_by(
     }
 }
 
-// A refusal.
+// A refusal, with what its number carries.
 fn refused(number: u16, place: Place, a: usize, b: usize) -> Verdict
-    ensures { λ r. ⌜ paper r ≡ refuse (refusal-of number (w-of place) a b) ⌝ }
+    ensures { λ r. ⌜ paper r ≡ refuse (carried number (w-of place) a b) ⌝ }
 {
-    Verdict::Refused(Refusal {
-        number,
-        place,
-        a,
-        b,
-    })
+    Verdict::Refused(layout::carried(number, place, a, b))
 }
 
 // The closing's own numbers.

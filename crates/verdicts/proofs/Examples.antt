@@ -3,8 +3,9 @@ use mathlib.Core.Path.{_≡_, refl}
 use mathlib.Core.List.{[], _∷_}
 use Rattle.patterns.specs.Refusal.{closing-place}
 use Rattle.patterns.specs.Judge.{accept, refuse}
+use Rattle.layout.specs.Carried.{of-a-field, of-a-part, carried}
 use Rattle.verdicts.specs.Decimal.{decimal-within, decimal}
-use Rattle.verdicts.specs.Lines.{accept-word, refuse-word, spaced, sentence, line-of}
+use Rattle.verdicts.specs.Lines.{accept-word, refuse-word, spaced, sentence, refusal-line, line-of}
 
 -- `accept 2 1 40`: the line, then k, then α
 pub accept-case : line-of (accept 2 (record { k = 1; α = 40 }))
@@ -15,7 +16,7 @@ accept-case = refl
 -- `refuse 15 3 20 1`: the number, W, A and B
 pub refuse-case : line-of (refuse (record { number = 15; w = closing-place; a = 20; b = 1 }))
     ≡ 114 ∷ 101 ∷ 102 ∷ 117 ∷ 115 ∷ 101 ∷ 32 ∷ 49 ∷ 53 ∷ 32 ∷ 51 ∷ 32 ∷ 50 ∷ 48 ∷ 32 ∷ 49 ∷ 10 ∷ []
-unfolding line-of sentence refuse-word spaced decimal decimal-within
+unfolding line-of refusal-line carried of-a-field of-a-part sentence refuse-word spaced decimal decimal-within
 refuse-case = refl
 
 -- the largest `usize`, 20 digits

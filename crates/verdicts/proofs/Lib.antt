@@ -10,6 +10,8 @@ pub mod WorkTables
 pub mod Framing
 pub mod OneVerdict
 pub mod OneLine
+pub mod Parted
+pub mod Carried
 pub mod Compute
 pub mod Examples
 pub mod Table

@@ -10,6 +10,7 @@ use Rattle.layout.specs.Answers.{w-of}
 use Rattle.layout.proofs.Besides.{few-counts, beside-ran}
 use Rattle.layout.proofs.Answering.{answers-shut, answers-refusal, answers-short, answers-filled, opening-shut, opening-good}
 use Rattle.layout.proofs.Opens.{in-list}
+use Rattle.layout.proofs.FieldNumbers.{refuses-beside}
 use Rattle.layout.proofs.Giving.{list-told, writing-is, bad-written, good-over, good-written, good-bytes, packed-after}
 use borrow.Author.Needs.{needs}
 use Rattle.layout.proofs.pack_certificate.Statement.{statement}
@@ -47,14 +48,14 @@ refused-requires c κs = search needs
 
 returns : tie.Need-returns
 unfolding w-of
-returns c = let g = opening-good _ _ (list-told _ (certificate-of (c .before .before .before .before .before .before .before .before .before .before .before .before .before .before .before .before .pre .tree)) nothing _ Certificate (beside-ran _ _ _ (c .before .before .before .before .before .before .before .before .before .before .before .before .before .before .before .before .pre) (c .before .before .before .before .before .before .before .before .certificate .ensures)) (c .before .before .before .before .before .opened-list .ensures)) (c .before .before .before .k .given .1) in answers-refusal _ _ _ _ (writing-is _ _ (c .before .before .before .before .before .before .before .before .before .before .before .before .before .before .before .before .pre) _ ∙ good-over g certificate-place 32768 (omega (arith, c .before .if1 .taken))) (c .refused .ensures)
+returns c = let g = opening-good _ _ (list-told _ (refuses-beside (c .before .before .before .before .before .before .before .before .before .before .before .before .before .before .before .before .pre .tree)) nothing _ Certificate (beside-ran _ _ _ (c .before .before .before .before .before .before .before .before .before .before .before .before .before .before .before .before .pre) (c .before .before .before .before .before .before .before .before .certificate .ensures)) (c .before .before .before .before .before .opened-list .ensures)) (c .before .before .before .k .given .1) in answers-refusal _ _ _ _ (writing-is _ _ (c .before .before .before .before .before .before .before .before .before .before .before .before .before .before .before .before .pre) _ ∙ good-over g certificate-place 32768 (omega (arith, c .before .if1 .taken))) (c .refused .ensures)
 
 refused-requires-2 : tie.Need-refused-requires-2
 refused-requires-2 c κs = search needs
 
 returns-2 : tie.Need-returns-2
 unfolding w-of
-returns-2 c = let g = opening-good _ _ (list-told _ (certificate-of (c .before .before .before .before .before .before .before .before .before .before .before .before .before .before .before .before .before .pre .tree)) nothing _ Certificate (beside-ran _ _ _ (c .before .before .before .before .before .before .before .before .before .before .before .before .before .before .before .before .before .pre) (c .before .before .before .before .before .before .before .before .before .certificate .ensures)) (c .before .before .before .before .before .before .opened-list .ensures)) (c .before .before .before .before .k .given .1) in let e = good-bytes g in answers-short _ _ _ _ (writing-is _ _ (c .before .before .before .before .before .before .before .before .before .before .before .before .before .before .before .before .before .pre) _ ∙ good-written g certificate-place 32768 (omega (arith, c .before .before .if1 .left))) (omega (arith, c .before .if2 .taken)) (c .refused2 .ensures)
+returns-2 c = let g = opening-good _ _ (list-told _ (refuses-beside (c .before .before .before .before .before .before .before .before .before .before .before .before .before .before .before .before .before .pre .tree)) nothing _ Certificate (beside-ran _ _ _ (c .before .before .before .before .before .before .before .before .before .before .before .before .before .before .before .before .before .pre) (c .before .before .before .before .before .before .before .before .before .certificate .ensures)) (c .before .before .before .before .before .before .opened-list .ensures)) (c .before .before .before .before .k .given .1) in let e = good-bytes g in answers-short _ _ _ _ (writing-is _ _ (c .before .before .before .before .before .before .before .before .before .before .before .before .before .before .before .before .before .pre) _ ∙ good-written g certificate-place 32768 (omega (arith, c .before .before .if1 .left))) (omega (arith, c .before .if2 .taken)) (c .refused2 .ensures)
 
 slice-aggregate-certificate-4 : tie.Need-slice-aggregate-certificate-4
 slice-aggregate-certificate-4 c = search needs
@@ -67,14 +68,14 @@ certificate-requires-2 c κs = few-counts _ [] _ (c .before .before .before .bef
 
 returns-3 : tie.Need-returns-3
 unfolding w-of
-returns-3 c = answers-shut _ _ _ _ (writing-is _ _ (c .before .before .before .before .before .before .before .before .before .before .before .before .before .before .pre) _ ∙ bad-written certificate-place 32768 _ (opening-shut _ _ (list-told _ (certificate-of (c .before .before .before .before .before .before .before .before .before .before .before .before .before .before .pre .tree)) nothing _ Certificate (beside-ran _ _ _ (c .before .before .before .before .before .before .before .before .before .before .before .before .before .before .pre) (c .before .before .before .before .before .before .certificate .ensures)) (c .before .before .before .opened-list .ensures)) (c .before .r .given .1)))
+returns-3 c = answers-shut _ _ _ _ (writing-is _ _ (c .before .before .before .before .before .before .before .before .before .before .before .before .before .before .pre) _ ∙ bad-written certificate-place 32768 _ (opening-shut _ _ (list-told _ (refuses-beside (c .before .before .before .before .before .before .before .before .before .before .before .before .before .before .pre .tree)) nothing _ Certificate (beside-ran _ _ _ (c .before .before .before .before .before .before .before .before .before .before .before .before .before .before .pre) (c .before .before .before .before .before .before .certificate .ensures)) (c .before .before .before .opened-list .ensures)) (c .before .r .given .1)))
 
 same-length : tie.Need-same-length
 same-length c = search needs
 
 returns-4 : tie.Need-returns-4
 unfolding w-of
-returns-4 c = let g = opening-good _ _ (list-told _ (certificate-of (c .before .before .before .before .before .before .before .before .before .before .before .before .before .before .before .before .before .before .before .before .before .before .before .pre .tree)) nothing _ Certificate (beside-ran _ _ _ (c .before .before .before .before .before .before .before .before .before .before .before .before .before .before .before .before .before .before .before .before .before .before .before .pre) (c .before .before .before .before .before .before .before .before .before .before .before .before .before .before .before .certificate .ensures)) (c .before .before .before .before .before .before .before .before .before .before .before .before .opened-list .ensures)) (c .before .before .before .before .before .before .before .before .before .before .k .given .1) in let e = good-bytes g in answers-filled _ _ _ (writing-is _ _ (c .before .before .before .before .before .before .before .before .before .before .before .before .before .before .before .before .before .before .before .before .before .before .before .pre) _ ∙ good-written g certificate-place 32768 (omega (arith, c .before .before .before .before .before .before .before .before .if1 .left))) (omega (arith, c .before .before .before .before .before .before .before .if2 .left)) (omega arith) (packed-after (certificate-of (c .before .before .before .before .before .before .before .before .before .before .before .before .before .before .before .before .before .before .before .before .before .before .before .pre .tree)) (in-list certificate-place _ _ (g .is)) (beside-ran _ _ _ (c .before .before .before .before .before .before .before .before .before .before .before .before .before .before .before .before .before .before .before .before .before .before .before .pre) (c .before .before .before .certificate2 .ensures)) (omega (arith, c .before .before .before .before .before .before .before .if2 .left)) (omega (arith, c .before .before .before .before .before .before .before .before .if1 .left)))
+returns-4 c = let g = opening-good _ _ (list-told _ (refuses-beside (c .before .before .before .before .before .before .before .before .before .before .before .before .before .before .before .before .before .before .before .before .before .before .before .pre .tree)) nothing _ Certificate (beside-ran _ _ _ (c .before .before .before .before .before .before .before .before .before .before .before .before .before .before .before .before .before .before .before .before .before .before .before .pre) (c .before .before .before .before .before .before .before .before .before .before .before .before .before .before .before .certificate .ensures)) (c .before .before .before .before .before .before .before .before .before .before .before .before .opened-list .ensures)) (c .before .before .before .before .before .before .before .before .before .before .k .given .1) in let e = good-bytes g in answers-filled _ _ _ (writing-is _ _ (c .before .before .before .before .before .before .before .before .before .before .before .before .before .before .before .before .before .before .before .before .before .before .before .pre) _ ∙ good-written g certificate-place 32768 (omega (arith, c .before .before .before .before .before .before .before .before .if1 .left))) (omega (arith, c .before .before .before .before .before .before .before .if2 .left)) (omega arith) (packed-after (certificate-of (c .before .before .before .before .before .before .before .before .before .before .before .before .before .before .before .before .before .before .before .before .before .before .before .pre .tree)) (in-list certificate-place _ _ (g .is)) (beside-ran _ _ _ (c .before .before .before .before .before .before .before .before .before .before .before .before .before .before .before .before .before .before .before .before .before .before .before .pre) (c .before .before .before .certificate2 .ensures)) (omega (arith, c .before .before .before .before .before .before .before .if2 .left)) (omega (arith, c .before .before .before .before .before .before .before .before .if1 .left)))
 
 pub pack-certificate-spec : {M : Type 1} → statement M
 pack-certificate-spec =

@@ -7,6 +7,7 @@ use Rattle.layout.specs.declared.Place.the-variants.{Book}
 use Rattle.layout.specs.Answers.{w-of, writing-book}
 use Rattle.layout.proofs.Answering.{answers-shut, answers-refusal, answers-short, answers-filled, opening-shut, opening-good}
 use Rattle.layout.proofs.Opens.{in-list}
+use Rattle.layout.proofs.FieldNumbers.{refuses-book}
 use Rattle.layout.proofs.Giving.{list-told, bad-written, good-over, good-written, good-bytes, packed-after}
 use borrow.Author.Needs.{needs}
 use Rattle.layout.proofs.write_book.Statement.{statement}
@@ -47,14 +48,14 @@ refused-requires c κs = search needs
 
 returns : tie.Need-returns
 unfolding w-of writing-book
-returns c = let g = opening-good _ _ (list-told _ a-book ruleCount _ Book (c .before .before .before .before .before .before .before .before .before .book .ensures .0) (c .before .before .before .before .before .opened-list .ensures)) (c .before .before .before .k .given .1) in answers-refusal _ _ _ _ (good-over g book-place 16384 (omega (arith, c .before .if1 .taken))) (c .refused .ensures)
+returns c = let g = opening-good _ _ (list-told _ refuses-book ruleCount _ Book (c .before .before .before .before .before .before .before .before .before .book .ensures .0) (c .before .before .before .before .before .opened-list .ensures)) (c .before .before .before .k .given .1) in answers-refusal _ _ _ _ (good-over g book-place 16384 (omega (arith, c .before .if1 .taken))) (c .refused .ensures)
 
 refused-requires-2 : tie.Need-refused-requires-2
 refused-requires-2 c κs = search needs
 
 returns-2 : tie.Need-returns-2
 unfolding w-of writing-book
-returns-2 c = let g = opening-good _ _ (list-told _ a-book ruleCount _ Book (c .before .before .before .before .before .before .before .before .before .before .book .ensures .0) (c .before .before .before .before .before .before .opened-list .ensures)) (c .before .before .before .before .k .given .1) in let e = good-bytes g in answers-short _ _ _ _ (good-written g book-place 16384 (omega (arith, c .before .before .if1 .left))) (omega (arith, c .before .if2 .taken)) (c .refused2 .ensures)
+returns-2 c = let g = opening-good _ _ (list-told _ refuses-book ruleCount _ Book (c .before .before .before .before .before .before .before .before .before .before .book .ensures .0) (c .before .before .before .before .before .before .opened-list .ensures)) (c .before .before .before .before .k .given .1) in let e = good-bytes g in answers-short _ _ _ _ (good-written g book-place 16384 (omega (arith, c .before .before .if1 .left))) (omega (arith, c .before .if2 .taken)) (c .refused2 .ensures)
 
 slice-aggregate-book-5 : tie.Need-slice-aggregate-book-5
 slice-aggregate-book-5 c = search needs
@@ -70,14 +71,14 @@ book-requires-2 c κs = search needs
 
 returns-3 : tie.Need-returns-3
 unfolding w-of writing-book
-returns-3 c = answers-shut _ _ _ _ (bad-written book-place 16384 _ (opening-shut _ _ (list-told _ a-book ruleCount _ Book (c .before .before .before .before .before .before .before .book .ensures .0) (c .before .before .before .opened-list .ensures)) (c .before .r .given .1)))
+returns-3 c = answers-shut _ _ _ _ (bad-written book-place 16384 _ (opening-shut _ _ (list-told _ refuses-book ruleCount _ Book (c .before .before .before .before .before .before .before .book .ensures .0) (c .before .before .before .opened-list .ensures)) (c .before .r .given .1)))
 
 same-length : tie.Need-same-length
 same-length c = search needs
 
 returns-4 : tie.Need-returns-4
 unfolding w-of writing-book
-returns-4 c = let g = opening-good _ _ (list-told _ a-book ruleCount _ Book (c .before .before .before .before .before .before .before .before .before .before .before .before .before .before .before .before .before .before .book .ensures .0) (c .before .before .before .before .before .before .before .before .before .before .before .before .before .before .opened-list .ensures)) (c .before .before .before .before .before .before .before .before .before .before .before .before .k .given .1) in let e = good-bytes g in answers-filled _ _ _ (good-written g book-place 16384 (omega (arith, c .before .before .before .before .before .before .before .before .before .before .if1 .left))) (omega (arith, c .before .before .before .before .before .before .before .before .before .if2 .left)) (omega arith) (packed-after a-book (in-list book-place a-book _ (g .is)) (c .before .before .before .before .book2 .ensures .0) (omega (arith, c .before .before .before .before .before .before .before .before .before .if2 .left)) (omega (arith, c .before .before .before .before .before .before .before .before .before .before .if1 .left)))
+returns-4 c = let g = opening-good _ _ (list-told _ refuses-book ruleCount _ Book (c .before .before .before .before .before .before .before .before .before .before .before .before .before .before .before .before .before .before .book .ensures .0) (c .before .before .before .before .before .before .before .before .before .before .before .before .before .before .opened-list .ensures)) (c .before .before .before .before .before .before .before .before .before .before .before .before .k .given .1) in let e = good-bytes g in answers-filled _ _ _ (good-written g book-place 16384 (omega (arith, c .before .before .before .before .before .before .before .before .before .before .if1 .left))) (omega (arith, c .before .before .before .before .before .before .before .before .before .if2 .left)) (omega arith) (packed-after a-book (in-list book-place a-book _ (g .is)) (c .before .before .before .before .book2 .ensures .0) (omega (arith, c .before .before .before .before .before .before .before .before .before .if2 .left)) (omega (arith, c .before .before .before .before .before .before .before .before .before .before .if1 .left)))
 
 pub write-book-spec : {M : Type 1} → statement M
 write-book-spec =
