@@ -1,5 +1,6 @@
 -- `verdicts::refusal_line` meets its contract: a match on the number.
 use mathlib.Core.Logic.{⊎-elim}
+use native.Mathlib.Omega.{arith}
 use Rattle.verdicts.specs.Lines.{refuse-word}
 use Rattle.verdicts.proofs.Printed.{field-printed, part-printed, low-printed, between-printed, high-printed}
 use borrow.Author.Needs.{needs}
@@ -44,21 +45,21 @@ same-length c = search needs
 
 returns : tie.Need-returns
 unfolding refuse-word
-returns c = field-printed _ _ (c .before .before .before .before .before .before .before .before .place-number .ensures) (c .before .before .before .before .before .before .before .if1 .left) (c .before .before .before .before .before .before .if2 .taken) (c .before .before .put-sentence .ensures)
+returns c = field-printed _ _ (c .before .before .before .before .before .before .before .before .place-number .ensures) (omega (arith, c .before .before .before .before .before .before .before .if1 .left)) (omega (arith, c .before .before .before .before .before .before .if2 .taken)) (c .before .before .put-sentence .ensures)
 
 same-length-2 : tie.Need-same-length-2
 same-length-2 c = search needs
 
 returns-2 : tie.Need-returns-2
 unfolding refuse-word
-returns-2 c = part-printed _ _ (c .before .before .before .before .before .before .before .before .before .before .place-number .ensures) (c .before .before .before .before .before .before .before .if3 .left) (c .before .before .before .before .before .before .if4 .taken) (c .before .before .put-sentence2 .ensures)
+returns-2 c = part-printed _ _ (c .before .before .before .before .before .before .before .before .before .before .place-number .ensures) (omega (arith, c .before .before .before .before .before .before .before .if3 .left)) (omega (arith, c .before .before .before .before .before .before .if4 .taken)) (c .before .before .put-sentence2 .ensures)
 
 same-length-3 : tie.Need-same-length-3
 same-length-3 c = search needs
 
 returns-3 : tie.Need-returns-3
 unfolding refuse-word
-returns-3 c = ⊎-elim (λ h. low-printed _ _ (c .before .before .before .before .before .before .before .place-number .ensures) (h .taken) (c .before .before .put-sentence3 .ensures)) (⊎-elim (λ h. between-printed _ _ (c .before .before .before .before .before .before .before .place-number .ensures) (h .1 .left) (h .2 .taken) (c .before .before .put-sentence3 .ensures)) (λ h. high-printed _ _ (c .before .before .before .before .before .before .before .place-number .ensures) (h .3 .left) (c .before .before .put-sentence3 .ensures))) (c .before .before .before .before .before .before .if1 .came)
+returns-3 c = ⊎-elim (λ h. low-printed _ _ (c .before .before .before .before .before .before .before .place-number .ensures) (omega (arith, h .taken)) (c .before .before .put-sentence3 .ensures)) (⊎-elim (λ h. between-printed _ _ (c .before .before .before .before .before .before .before .place-number .ensures) (omega (arith, h .1 .left)) (omega (arith, h .2 .taken)) (c .before .before .put-sentence3 .ensures)) (λ h. high-printed _ _ (c .before .before .before .before .before .before .before .place-number .ensures) (omega (arith, h .3 .left)) (c .before .before .put-sentence3 .ensures))) (c .before .before .before .before .before .before .if1 .came)
 
 pub refusal-line-spec : {M : Type 1} → statement M
 refusal-line-spec =
