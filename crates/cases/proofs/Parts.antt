@@ -7,7 +7,8 @@ use lib.ListN.{length, take, drop}
 use lib.Seq.{length-front}
 use Rattle.io.specs.Counts.{Counts}
 use Rattle.io.proofs.Counting.{counts}
-use Rattle.verdicts.proofs.Printed.{Writes, line-first}
+use Rattle.verdicts.specs.Lines.{Prints}
+use Rattle.verdicts.proofs.Printed.{line-first}
 
 -- a part that came back
 pub counts-again : {n : ℕ} (whole part : List ℕ) → n ≤ length whole → length part ≡ length (take n whole)
@@ -15,5 +16,5 @@ pub counts-again : {n : ℕ} (whole part : List ℕ) → n ≤ length whole → 
 counts-again {n} whole part h e = counts n _ (omega (arith, length-front whole part n e))
 
 -- a line fits 91 bytes
-pub line-fits : (l out : List ℕ) {r : ℕ} {out′ : List ℕ} → 91 ≤ length out → Writes l out r out′ → r ≤ 91
-line-fits l out h p = omega (arith, line-first l out h p .0)
+pub line-fits : (l out : List ℕ) {r : ℕ} {out′ : List ℕ} → 91 ≤ length out → Prints l out r out′ → r ≤ 91
+line-fits l out h p = omega (arith, line-first l out h p .0, p .short)

@@ -13,10 +13,10 @@ use Rattle.checking.specs.declared.Found.{Found}
 use Rattle.checking.specs.declared.Found.the-variants.{Fault, Good}
 use Rattle.checking.specs.declared.Compared.{Compared}
 use Rattle.checking.specs.declared.Compared.the-variants.{Equal, Unequal, TooBig}
-use Rattle.checking.specs.declared.Kind.{Kind}
 use Rattle.checking.specs.declared.Subject.{Subject}
 use Rattle.checking.specs.Subjects.{Settles, Compares}
-use Rattle.checking.specs.Found.{fault, Tells, Finds, number-at, Checks}
+use Rattle.checking.specs.Found.{fault, Tells, Finds}
+use Rattle.checking.specs.Asked.{Equals}
 
 -- ---- one check
 
@@ -129,16 +129,12 @@ module _ (n p : ℕ) (m k : Mark Exp) (end : ℕ) where
       go h (yes x) (no y) = fault-met _ _ x ∙ fault-unmet _ _ y
       go h (yes x) (yes y) = absurd (h (x, y))
 
-module _ {book cert w after : List ℕ} {a b : Subject} {r : Compared} (kind : Kind) (part : ℕ) (c : Compares book cert a b w after r) where
-  pub checks-equal : {e : ℕ} → r ≡ Equal e → Checks book cert kind part a b w after (Good e)
-  checks-equal q = record { told = λ m e x k f y. finds-equal (number-at kind part) part m k e (c .told m e x k f y) q; below = c .below }
+module _ {book cert w after : List ℕ} {a b : Subject} {r : Compared} (n p : ℕ) (c : Compares book cert a b w after r) where
+  pub equals-equal : {e : ℕ} → r ≡ Equal e → Equals book cert n p a b w after (Good e)
+  equals-equal q = record { told = λ m e x k f y. finds-equal n p m k e (c .told m e x k f y) q; below = c .below }
 
-  pub checks-unequal : {n : ℕ} → r ≡ Unequal → n ≡ number-at kind part → Checks book cert kind part a b w after (Fault n part)
-  checks-unequal {n} q e = record {
-    told = λ m i x k f y. subst (λ j. Finds (compare (number-at kind part) part m k) i (Fault j part)) (sym e)
-        (finds-unequal (number-at kind part) part m k i (c .told m i x k f y) q);
-    below = c .below;
-  }
+  pub equals-unequal : r ≡ Unequal → Equals book cert n p a b w after (Fault n p)
+  equals-unequal q = record { told = λ m e x k f y. finds-unequal n p m k e (c .told m e x k f y) q; below = c .below }
 
-  pub checks-too-big : r ≡ TooBig → Checks book cert kind part a b w after (Fault 16 part)
-  checks-too-big q = record { told = λ m e x k f y. finds-too-big (number-at kind part) part m k e (c .told m e x k f y) q; below = c .below }
+  pub equals-too-big : r ≡ TooBig → Equals book cert n p a b w after (Fault 16 p)
+  equals-too-big q = record { told = λ m e x k f y. finds-too-big n p m k e (c .told m e x k f y) q; below = c .below }

@@ -7,3 +7,5 @@ pub mod Subjects
 pub mod Meanings
 pub mod Using
 pub mod Finding
+pub mod Looking
+pub mod Asking

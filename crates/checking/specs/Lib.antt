@@ -3,3 +3,5 @@ pub mod Placed
 pub mod Known
 pub mod Subjects
 pub mod Found
+pub mod Rights
+pub mod Asked

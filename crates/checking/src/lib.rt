@@ -9,7 +9,8 @@ ghost use Rattle.instances.specs.Instances.{Builds};
 ghost use Rattle.checking.specs.Placed.{Takes, Passes, PassesRule, PassesRight, Notes, Indexes};
 ghost use Rattle.checking.specs.Known.{ReadsUse};
 ghost use Rattle.checking.specs.Subjects.{Sided, Compares, PlainRight, UsedRight};
-ghost use Rattle.checking.specs.Found.{number-at, Checks};
+ghost use Rattle.checking.specs.Rights.{EmptyRight, Looks, LooksLevel};
+ghost use Rattle.checking.specs.Asked.{Equals, LedEquals, asked-at, Checks};
 
 // A field, and the bit behind it.
 pub struct Read {
@@ -53,6 +54,22 @@ pub enum Kind {
     Unfold,
     Descent,
     Closing,
+}
+
+// What stands behind a call that has a use: calls that the line judges too, calls that stay pending, or none.
+pub enum Behind {
+    Judged,
+    Pending,
+    Nothing,
+}
+
+// What is asked at a part, with the numbers of its refusals: that two sides are equal; that the right of a use is what the calls behind
+// it ask for, and then that two sides are equal; that a right is the same at every index; that a right is there.
+pub enum Asked {
+    Same(u16),
+    Led(u16, u16),
+    Level(u16),
+    Present(u16),
 }
 
 // The field of w bits at a bit.
@@ -227,42 +244,145 @@ fn compare(book: &[u8], certificate: &[u8], w: &mut [u64], a: Subject, b: Subjec
     Compared::Unequal
 }
 
-// The number of a comparison that fails.
-fn number(kind: Kind, part: usize) -> u16
-    ensures { λ r. ⌜ r ≡ number-at kind part ⌝ }
+// Two sides are equal, else a number; 16 if one of them is too large.
+fn equal(
+    book: &[u8],
+    certificate: &[u8],
+    w: &mut [u64],
+    number: u16,
+    part: usize,
+    a: Subject,
+    b: Subject,
+) -> Found
+    requires { ⌜ 8192 ≤ length (now w) ⌝ }
+    ensures { λ r. ⌜ Equals (now (book .entry)) (now (certificate .entry)) number part a b (now (w .entry)) (now (w .exit)) r ⌝ }
 {
-    match kind {
-        Kind::Unfold => match part {
-            0 => 9,
-            15 => 12,
-            _ => 10,
-        },
-        Kind::Descent => match part {
-            0 => 9,
-            1 => 12,
-            2 => 9,
-            _ => 10,
-        },
-        Kind::Closing => 15,
+    match compare(book, certificate, w, a, b) {
+        Compared::TooBig => Found::Fault(16, part),
+        Compared::Unequal => Found::Fault(number, part),
+        Compared::Equal(end) => Found::Good(end),
     }
 }
 
-// The comparison at a part.
+// Whether the right at a bit is the empty mark.
+fn is_empty(certificate: &[u8], right: usize) -> bool
+    ensures { λ r. ⌜ EmptyRight (now (certificate .entry)) right r ⌝ }
+{
+    let any = field(certificate, 1, right);
+    any.value == 0
+}
+
+// A right is the empty mark, else a number.
+fn spent(certificate: &[u8], number: u16, part: usize, right: usize) -> Found
+    ensures { λ r. ⌜ Looks (now (certificate .entry)) right Behind.Judged number part r ⌝ }
+{
+    if is_empty(certificate, right) {
+        return Found::Good(0);
+    }
+    Found::Fault(number, part)
+}
+
+// A right is not the empty mark, else a number.
+fn present(certificate: &[u8], number: u16, part: usize, right: usize) -> Found
+    ensures { λ r. ⌜ Looks (now (certificate .entry)) right Behind.Pending number part r ⌝ }
+{
+    if is_empty(certificate, right) {
+        return Found::Fault(number, part);
+    }
+    Found::Good(0)
+}
+
+// The right of a use is what the calls behind it ask for, else a number.
+fn led(certificate: &[u8], number: u16, part: usize, right: usize, behind: Behind) -> Found
+    ensures { λ r. ⌜ Looks (now (certificate .entry)) right behind number part r ⌝ }
+{
+    match behind {
+        Behind::Judged => spent(certificate, number, part, right),
+        Behind::Pending => present(certificate, number, part, right),
+        Behind::Nothing => Found::Good(0),
+    }
+}
+
+// The same, else a number; then two sides are equal, else another.
+fn led_equal(
+    book: &[u8],
+    certificate: &[u8],
+    w: &mut [u64],
+    before: u16,
+    number: u16,
+    part: usize,
+    right: usize,
+    behind: Behind,
+    a: Subject,
+    b: Subject,
+) -> Found
+    requires { ⌜ 8192 ≤ length (now w) ⌝ }
+    ensures { λ r. ⌜ LedEquals (now (book .entry)) (now (certificate .entry)) before number part right behind a b (now (w .entry)) (now (w .exit)) r ⌝ }
+{
+    match led(certificate, before, part, right, behind) {
+        Found::Fault(n, p) => Found::Fault(n, p),
+        Found::Good(_) => equal(book, certificate, w, number, part, a, b),
+    }
+}
+
+// A right is empty or has a = 0 in every power, else a number.
+fn level(book: &[u8], certificate: &[u8], number: u16, part: usize, right: usize) -> Found
+    ensures { λ r. ⌜ LooksLevel (now (book .entry)) (now (certificate .entry)) right number part r ⌝ }
+{
+    let any = field(certificate, 1, right);
+    let term = any.at;
+    if any.value == 0 {
+        return Found::Good(0);
+    }
+    if instances::level(book, certificate, term) {
+        return Found::Good(0);
+    }
+    Found::Fault(number, part)
+}
+
+// What is asked at each part of each kind of line.
+fn asked_at(kind: Kind, part: usize) -> Asked
+    ensures { λ r. ⌜ r ≡ asked-at kind part ⌝ }
+{
+    match kind {
+        Kind::Unfold => match part {
+            0 => Asked::Same(9),
+            15 => Asked::Same(12),
+            _ => Asked::Led(11, 10),
+        },
+        Kind::Descent => match part {
+            0 => Asked::Same(9),
+            1 => Asked::Same(12),
+            2 => Asked::Same(9),
+            3 => Asked::Same(10),
+            _ => Asked::Level(13),
+        },
+        Kind::Closing => match part {
+            0 => Asked::Present(14),
+            _ => Asked::Same(15),
+        },
+    }
+}
+
+// The check that is made at a part: each looks at what it asks for, a right at a bit, what stands behind its call, or two sides.
 pub fn check(
     book: &[u8],
     certificate: &[u8],
     w: &mut [u64],
     kind: Kind,
     part: usize,
+    right: usize,
+    behind: Behind,
     a: Subject,
     b: Subject,
 ) -> Found
     requires { ⌜ 8192 ≤ length (now w) ⌝ }
-    ensures { λ r. ⌜ Checks (now (book .entry)) (now (certificate .entry)) kind part a b (now (w .entry)) (now (w .exit)) r ⌝ }
+    ensures { λ r. ⌜ Checks (now (book .entry)) (now (certificate .entry)) kind part right behind a b (now (w .entry)) (now (w .exit)) r ⌝ }
 {
-    match compare(book, certificate, w, a, b) {
-        Compared::TooBig => Found::Fault(16, part),
-        Compared::Unequal => Found::Fault(number(kind, part), part),
-        Compared::Equal(end) => Found::Good(end),
+    match asked_at(kind, part) {
+        Asked::Same(n) => equal(book, certificate, w, n, part, a, b),
+        Asked::Led(l, n) => led_equal(book, certificate, w, l, n, part, right, behind, a, b),
+        Asked::Level(n) => level(book, certificate, n, part, right),
+        Asked::Present(n) => present(certificate, n, part, right),
     }
 }

@@ -1,65 +1,61 @@
 -- The parts of a descent, from its base to its level right.
 use Prim.Native.Nat.{ℕ}
 use mathlib.Core.Path.{_≡_, refl, sym, subst, ap, _∙_}
-use mathlib.Core.Logic.{_≢_}
-use mathlib.Core.Bool.{Bool, true, false}
 use mathlib.Core.List.{List, [], _∷_, flatMap, append-nil}
 use mathlib.Core.Option.{none, some}
 use native.Mathlib.Omega.{arith}
 use lib.ListN.{length, getD}
 use Rattle.bits.specs.Packed.{width}
 use Rattle.bits.proofs.Groups.{width-append}
-use Rattle.patterns.specs.Term.{fill, All}
-use Rattle.patterns.specs.First.{Exp, Pattern, Pair, Still, one}
+use Rattle.patterns.specs.Term.{fill}
+use Rattle.patterns.specs.First.{Exp, Pattern, Pair, one}
 use Rattle.patterns.specs.Every.{Every}
 use Rattle.patterns.specs.Edition.{reindex}
 use Rattle.patterns.specs.Derive.{Rule, Book}
 use Rattle.patterns.specs.Certificate.{Fills, by, Claim, Mark, Use}
-use Rattle.patterns.specs.Checks.{OnMark, instance}
-use Rattle.patterns.specs.Demand.{Met, level}
+use Rattle.patterns.specs.Checks.{instance}
+use Rattle.patterns.specs.Demand.{level}
 use Rattle.patterns.specs.Judge.{check, compare, sole, line-checks}
-use Rattle.grammar.specs.Listing.{if-any, term-fields, use-fields, kind-fields, filling-fields}
+use Rattle.grammar.specs.Listing.{term-fields, use-fields, kind-fields, filling-fields}
 use Rattle.grammar.specs.Limits.{RootFits, KindFits}
-use Rattle.table.specs.Answer.{Says}
-use Rattle.table.proofs.Comparing.{says-true, says-false}
 use Rattle.checking.specs.declared.Read.{Read}
 use Rattle.checking.specs.declared.Found.{Found}
 use Rattle.checking.specs.declared.Found.the-variants.{Fault, Good}
 use Rattle.checking.specs.declared.Kind.the-variants.{Descent}
 use Rattle.checking.specs.declared.Instance.{Instance}
 use Rattle.checking.specs.declared.Subject.{Subject}
-use Rattle.checking.specs.declared.Subject.the-variants.{Call, Plain, Used}
+use Rattle.checking.specs.declared.Subject.the-variants.{Empty, Call, Plain, Used}
+use Rattle.checking.specs.declared.Behind.the-variants.{Nothing}
 use Rattle.instances.specs.Lying.{Lies, behind}
-use Rattle.instances.specs.Instances.{Levels}
 use Rattle.fillings.specs.Listings.{Lists}
 use Rattle.checking.specs.Placed.{Takes, Known-arities, RightAt, RuleAt}
 use Rattle.checking.specs.Known.{Below, Uses, ReadsUse}
 use Rattle.checking.specs.Subjects.{Means, PlainRight, UsedRight}
-use Rattle.checking.specs.Found.{Finds, number-at, Checks}
+use Rattle.checking.specs.Found.{Finds}
+use Rattle.checking.specs.Asked.{asked-at, checks-of, end-of, Checks}
 use Rattle.descents.specs.Descents.{Descending, base-checks, DescentBase, HeadAt, DescentHead, DescentCall, LevelRight, DescentBy, DescentOn, DescentAt}
 use Rattle.instances.proofs.Lying.{lies-front, lies-back}
-use Rattle.checking.proofs.Passing.{term-at}
 use Rattle.checking.proofs.Using.{rest-at}
 use Rattle.checking.proofs.Frames.{below-then, below-less, kept-below, known-below, scene-below, uses-below, tells-above}
 use Rattle.checking.proofs.Meanings.{call-means, left-means, left-itself, used-means}
-use Rattle.checking.proofs.Finding.{finds-stop, finds-then, finds-met, finds-unmet, finds-ending}
+use Rattle.checking.proofs.Finding.{finds-fault, finds-last, finds-stop, finds-then, finds-ending}
 use Rattle.unfolds.proofs.Unfoldings.{named, finds-given, head-lies, calls-at, named-rule}
 
 -- ---- the parts of a descent
 
-module _ {book cert w v : List ℕ} {left right : ℕ} {base : Instance} {r : Found} (first : Checks book cert Descent 0 (Used (base .left) (base .i) (base .j)) (Plain left 0 0) w v r) where
+module _ {book cert w v : List ℕ} {left right : ℕ} {base : Instance} {r : Found} (first : Checks book cert Descent 0 right Nothing (Used (base .left) (base .i) (base .j)) (Plain left 0 0) w v r) where
   first-found : {ars : List ℕ} {B : Book Exp} {es : List (Claim Exp)} {θ : Fills Exp} {l : Claim Exp} {u : Use Exp Pair} {c : Claim Exp}
       → Descending book cert w ars B es θ left right l u c base
       → Finds (compare 9 0 (some (instance one u (c .left))) (some (reindex one (0, 0) (l .left)))) (behind (base .left) (c .left)) r
-  unfolding number-at
-  first-found D = first .told _ _ (used-means (D .scene .known) (D .base-at)) _ _ (left-means 0 0 (D .scene .known) (D .left-at))
+  unfolding asked-at checks-of end-of
+  first-found {ars} D = first .told ars (D .scene .known .arity) _ (D .right-at) _ _ (used-means (D .scene .known) (D .base-at)) _ _ (left-means 0 0 (D .scene .known) (D .left-at))
 
   pub base-fault : {n p : ℕ} → r ≡ Fault n p → DescentBase book cert left right base w v (Fault n p)
   base-fault q = record { told = λ ars B es θ l u c D. (0, finds-stop _ (first-found D) q); below = first .below }
 
   pub base-on : {x : ℕ} {theirs own : Subject} {after : List ℕ} {s : Found} → r ≡ Good x → UsedRight cert (base .right) (base .i) (base .j) theirs
-      → PlainRight cert right 0 0 own → Checks book cert Descent 1 theirs own v after s → DescentBase book cert left right base w after s
-  unfolding number-at
+      → PlainRight cert right 0 0 own → Checks book cert Descent 1 right Nothing theirs own v after s → DescentBase book cert left right base w after s
+  unfolding asked-at checks-of end-of
   base-on {x} {theirs} {own} {after} {s} q t o second = record { told = go; below = below-then (first .below) (second .below) }
     where
       index : {ars : List ℕ} {u : Use Exp Pair} {c : Claim Exp} → Uses book cert w ars u c base → u .index ≡ (base .i, base .j)
@@ -71,7 +67,7 @@ module _ {book cert w v : List ℕ} {left right : ℕ} {base : Instance} {r : Fo
           let known = known-below (below-less (omega arith) (first .below)) (D .scene .known) in
           let a = t .told book v ars B es known u (index (D .base-at)) (uses-below (first .below) (D .base-at) .used) (c .right) (D .base-at .claim-at .right-at) in
           let b = o .told book v ars B es known (l .right) (D .right-at) in
-          (a .0, finds-then (first-found D) q (λ z. second .told _ _ (a .1) _ _ (b .1)))
+          (a .0, finds-then (first-found D) q (λ z. second .told ars (known .arity) _ (D .right-at) _ _ (a .1) _ _ (b .1)))
 
 descending-below : {book cert w v ars : List ℕ} {B : Book Exp} {es : List (Claim Exp)} {θ : Fills Exp} {left right : ℕ} {l : Claim Exp} {u : Use Exp Pair} {c : Claim Exp} {base : Instance}
     → Below 1024 w v → Descending book cert w ars B es θ left right l u c base → Descending book cert v ars B es θ left right l u c base
@@ -87,13 +83,13 @@ module _ {book cert w v : List ℕ} {left right : ℕ} {base : Instance} {head :
   head-fault d q = record { told = λ ars B es θ l u c D h t H. finds-stop _ (d .told ars B es θ l u c D .1) q; below = d .below }
 
   pub head-on : {x : ℕ} {after : List ℕ} {s : Found} → DescentBase book cert left right base w v r → r ≡ Good x
-      → Checks book cert Descent 2 (Call head) (Plain left 1 1) v after s → DescentHead book cert left right base head w after s
-  unfolding number-at
+      → Checks book cert Descent 2 right Nothing (Call head) (Plain left 1 1) v after s → DescentHead book cert left right base head w after s
+  unfolding asked-at checks-of end-of
   head-on d q third = record {
     told = λ ars B es θ l u c D h t H.
         let E = descending-below (d .below) D in
         finds-then (d .told ars B es θ l u c D .1) q
-        (λ z. third .told _ _ (call-means (E .scene) (H .head-fits) (H .head)) _ _ (left-means 1 1 (E .scene .known) (E .left-at)));
+        (λ z. third .told ars (E .scene .known .arity) _ (E .right-at) _ _ (call-means (E .scene) (H .head-fits) (H .head)) _ _ (left-means 1 1 (E .scene .known) (E .left-at)));
     below = below-then (d .below) (third .below);
   }
 
@@ -101,14 +97,14 @@ module _ {book cert w v : List ℕ} {left right : ℕ} {base : Instance} {head :
   call-fault d q = record { told = λ ars B es θ l u c D h t H. (0, finds-stop _ (d .told ars B es θ l u c D h t H) q); below = d .below }
 
   pub call-on : {x : ℕ} {after : List ℕ} {s : Found} → DescentHead book cert left right base head w v r → r ≡ Good x
-      → Checks book cert Descent 3 (Call x) (Plain left 1 0) v after s → DescentCall book cert left right base head w after s
-  unfolding number-at
+      → Checks book cert Descent 3 right Nothing (Call x) (Plain left 1 0) v after s → DescentCall book cert left right base head w after s
+  unfolding asked-at checks-of end-of
   call-on {x} d q fourth = record {
     told = λ ars B es θ l u c D h t H.
         let E = descending-below (d .below) D in (
           behind (behind head h) t,
           finds-then (d .told ars B es θ l u c D h t H) q
-              (λ z. fourth .told _ _ (subst (λ a. Means book cert v (Call a) (some (fill (by θ) t)) (behind (behind head h) t)) (sym z) (call-means (E .scene) (H .call-fits) (H .call))) _ _
+              (λ z. fourth .told ars (E .scene .known .arity) _ (E .right-at) _ _ (subst (λ a. Means book cert v (Call a) (some (fill (by θ) t)) (behind (behind head h) t)) (sym z) (call-means (E .scene) (H .call-fits) (H .call))) _ _
               (left-itself (E .scene .known) (E .left-at))),
         );
     below = below-then (d .below) (fourth .below);
@@ -116,35 +112,16 @@ module _ {book cert w v : List ℕ} {left right : ℕ} {base : Instance} {head :
 
 -- ---- part 4
 
-module _ {book cert : List ℕ} {right : ℕ} (at : ℕ) {c : Read} (t : Takes cert 1 right c) where
-  pub level-none : c .value ≡ 0 → LevelRight book cert right at (Good at)
-  unfolding if-any Met OnMark
-  level-none z = record { told = go }
-    where
-      go : (ars : List ℕ) → Known-arities book ars → (m : Mark Exp) → RightAt cert ars right m → Finds (check 13 4 (level m) ∷ []) at (Good at)
-      go ars k none r = finds-met tt
-      go ars k (some u) r = absurd (omega (arith, t .told 1 (term-fields u) (r .lies) .0))
+module _ {book cert w after : List ℕ} {right : ℕ} {r : Found} (c : Checks book cert Descent 4 right Nothing Empty Empty w after r) where
+  level-found : (ars : List ℕ) → Known-arities book ars → (m : Mark Exp) → RightAt cert ars right m → Finds (check 13 4 (level m) ∷ []) 0 r
+  unfolding asked-at checks-of end-of Means
+  level-found ars k m a = c .told ars k m a none 0 (refl, refl) none 0 (refl, refl)
 
-  module _ {b : Bool} (ne : c .value ≢ 0) (l : Levels book cert (c .at) b) where
-    levels : (ars : List ℕ) → Known-arities book ars → (u : Pattern) → RightAt cert ars right (some u) → Says (All Still u) b
-    unfolding if-any OnMark
-    levels ars k u r = l .told u (term-at k (r .fits) (rest-at t (r .lies)))
+  pub level-fault : {at n p : ℕ} → r ≡ Fault n p → LevelRight book cert right at w after (Fault n p)
+  level-fault q = record { told = λ ars k m a. finds-fault (level-found ars k m a) q; below = c .below }
 
-    pub level-yes : b ≡ true → LevelRight book cert right at (Good at)
-    unfolding if-any Met OnMark
-    level-yes q = record { told = go }
-      where
-        go : (ars : List ℕ) → Known-arities book ars → (m : Mark Exp) → RightAt cert ars right m → Finds (check 13 4 (level m) ∷ []) at (Good at)
-        go ars k none r = absurd (ne (t .told 0 [] (r .lies) .0))
-        go ars k (some u) r = finds-met (says-true _ (levels ars k u r) q)
-
-    pub level-no : b ≡ false → LevelRight book cert right at (Fault 13 4)
-    unfolding if-any Met OnMark
-    level-no q = record { told = go }
-      where
-        go : (ars : List ℕ) → Known-arities book ars → (m : Mark Exp) → RightAt cert ars right m → Finds (check 13 4 (level m) ∷ []) at (Fault 13 4)
-        go ars k none r = absurd (ne (t .told 0 [] (r .lies) .0))
-        go ars k (some u) r = finds-unmet [] (says-false _ (levels ars k u r) q)
+  pub level-good : {at x : ℕ} → r ≡ Good x → LevelRight book cert right at w after (Good at)
+  level-good q = record { told = λ ars k m a. finds-last (level-found ars k m a) q; below = c .below }
 
 -- ---- all parts
 
@@ -164,11 +141,12 @@ module _ {book cert w v : List ℕ} {left right rule : ℕ} {base : Instance} {c
     below = d .below;
   }
 
-  pub by-on : {at x : ℕ} {s : Found} → r ≡ Good x → LevelRight book cert right at s → DescentBy book cert left right base rule at w v s
+  pub by-on : {at x : ℕ} {after : List ℕ} {s : Found} → r ≡ Good x → LevelRight book cert right at v after s
+      → DescentBy book cert left right base rule at w after s
   by-on q l = record {
     told = λ ars B es θ k u b D h p R e.
         finds-then (d .told ars B es θ k u b D (h .head) p (head-at R e) .1) q (λ z. l .told ars (D .scene .known .arity) (k .right) (D .right-at));
-    below = d .below;
+    below = below-then (d .below) (l .below);
   }
 
 sole-call : (vs : List Pattern) → length vs ≡ 1 → (v : Pattern) × (vs ≡ v ∷ [])

@@ -69,8 +69,9 @@ pub record DescentCall (book cert : List ℕ) (left right : ℕ) (base : Instanc
   pub below : Below 1024 w after
 
 -- 01, part 4: "right is empty or has a = 0 in every power"
-pub record LevelRight (book cert : List ℕ) (right at : ℕ) (r : Found) : Type 0 where
+pub record LevelRight (book cert : List ℕ) (right at : ℕ) (w after : List ℕ) (r : Found) : Type 0 where
   pub told : (ars : List ℕ) → Known-arities book ars → (m : Mark Exp) → RightAt cert ars right m → Finds (check 13 4 (level m) ∷ []) at r
+  pub below : Below 1024 w after
 
 pub record DescentBy (book cert : List ℕ) (left right : ℕ) (base : Instance) (rule at : ℕ) (w after : List ℕ) (r : Found) : Type 0 where
   pub told : (ars : List ℕ) (B : Book Exp) (es : List (Claim Exp)) (θ : Fills Exp) (l : Claim Exp) (u : Use Exp Pair) (c : Claim Exp)

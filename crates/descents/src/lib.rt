@@ -1,4 +1,5 @@
 // The checks of a descent.
+use checking::Behind;
 use checking::Found;
 use checking::Instance;
 use checking::Kind;
@@ -29,6 +30,8 @@ fn descent_base(
         w,
         Kind::Descent,
         0,
+        right,
+        Behind::Nothing,
         theirs,
         Subject::Plain(left, 0, 0),
     ) {
@@ -39,6 +42,8 @@ fn descent_base(
             w,
             Kind::Descent,
             1,
+            right,
+            Behind::Nothing,
             their_right,
             own_right,
         ),
@@ -66,6 +71,8 @@ fn descent_head(
             w,
             Kind::Descent,
             2,
+            right,
+            Behind::Nothing,
             Subject::Call(head),
             Subject::Plain(left, 1, 1),
         ),
@@ -93,25 +100,33 @@ fn descent_call(
             w,
             Kind::Descent,
             3,
+            right,
+            Behind::Nothing,
             Subject::Call(call),
             Subject::Plain(left, 1, 0),
         ),
     }
 }
 
-// Part 4 of a descent.
-fn level_right(book: &[u8], certificate: &[u8], right: usize, at: usize) -> Found
-    ensures { λ r. ⌜ LevelRight (now (book .entry)) (now (certificate .entry)) right at r ⌝ }
+// Part 4 of a descent, which ends at a bit: no sides are compared there.
+fn level_right(book: &[u8], certificate: &[u8], w: &mut [u64], right: usize, at: usize) -> Found
+    requires { ⌜ 8192 ≤ length (now w) ⌝ }
+    ensures { λ r. ⌜ LevelRight (now (book .entry)) (now (certificate .entry)) right at (now (w .entry)) (now (w .exit)) r ⌝ }
 {
-    let any = checking::field(certificate, 1, right);
-    let term = any.at;
-    if any.value == 0 {
-        return Found::Good(at);
+    match checking::check(
+        book,
+        certificate,
+        w,
+        Kind::Descent,
+        4,
+        right,
+        Behind::Nothing,
+        Subject::Empty,
+        Subject::Empty,
+    ) {
+        Found::Fault(n, p) => Found::Fault(n, p),
+        Found::Good(_) => Found::Good(at),
     }
-    if instances::level(book, certificate, term) {
-        return Found::Good(at);
-    }
-    Found::Fault(13, 4)
 }
 
 // All parts of a descent, which ends at a bit, by a rule at a bit of the book.
@@ -131,7 +146,7 @@ fn descent_by(
     let calls = checking::field(book, 4, rule);
     match descent_call(book, certificate, w, left, right, base, calls.at) {
         Found::Fault(n, p) => Found::Fault(n, p),
-        Found::Good(_) => level_right(book, certificate, right, at),
+        Found::Good(_) => level_right(book, certificate, w, right, at),
     }
 }
 

@@ -9,12 +9,12 @@ use Rattle.patterns.specs.First.{Pace}
 use Rattle.patterns.specs.Judge.{Verdict}
 use Rattle.verdicts.specs.declared.Verdict.{Verdict as Ruling}
 use Rattle.verdicts.specs.Verdicts.{paper}
-use Rattle.verdicts.specs.Lines.{line-of}
-use Rattle.verdicts.proofs.Printed.{Writes, line-first}
+use Rattle.verdicts.specs.Lines.{line-of, Prints}
+use Rattle.verdicts.proofs.Printed.{line-first}
 
 pub line-printed : (v : Ruling) {w : Verdict Pace} (out : List ℕ) {r : ℕ} {out′ : List ℕ} → 91 ≤ length out → paper v ≡ w
-    → Writes (line-of (paper v)) out r out′ → Counts r out′ × (take r out′ ≡ line-of w)
+    → Prints (line-of (paper v)) out r out′ → Counts r out′ × (take r out′ ≡ line-of w)
 line-printed v out {r} {out′} h e p =
     let q = line-first (line-of (paper v)) out h p in
     let n : length (take r out′) ≡ r = ap length (q .1) ∙ sym (q .0) in
-    ((omega (arith, length-take r out′), sym n), q .1 ∙ ap line-of e)
+    ((omega (arith, length-take r out′, p .short), sym n), q .1 ∙ ap line-of e)

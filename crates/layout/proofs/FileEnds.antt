@@ -27,8 +27,12 @@ use Rattle.books.specs.Counts.{start}
 use Rattle.layout.specs.Files.{Opened, good, bad, refusal-at, ends-at, closed-bytes, open-bytes, closed-list, open-list}
 use Rattle.layout.specs.declared.Place.{Place}
 use Rattle.layout.specs.declared.Opening.the-variants.{Open, Shut}
+use Rattle.layout.specs.declared.Refusal.{Refusal as Fault}
+use Rattle.layout.specs.Carried.{of-a-field, carried}
 use Rattle.layout.specs.Answers.{w-of, paper-refusal}
 use Rattle.layout.specs.Openings.{Sight, sees, shut, sight, seen, seen-bytes, seen-list, bits-of}
+use Rattle.fields.proofs.Refusing.{refused-few}
+use Rattle.layout.proofs.Carrying.{field-carried}
 
 -- ---- the last byte
 
@@ -119,7 +123,7 @@ module _ {A : Type 0} (s : List ℕ) (p : Grammar A) {ws bs ws₁ bs₁ : List �
       go (ok a d) e =
           under (ends-at s (d .bit)) a d (trace (from s []) p (start false)) (end-n (from s []) p false e)
           (end-bit (from s []) p false e)
-      go (no m d) e = refl
+      go (no m d) e = ap shut (field-carried w (d .bit) (refused-few s [] p (start false) m d e))
 
 -- over a list
 module _ {A : Type 0} (l : List ℕ) (p : Grammar A) {ws bs ws₁ bs₁ : List ℕ} (val : A → ℕ) {r : Walk}
@@ -139,7 +143,7 @@ module _ {A : Type 0} (l : List ℕ) (p : Grammar A) {ws bs ws₁ bs₁ : List �
       go (ok a d) e =
           under (eqb (d .n) (length l)) a d (trace (from [] l) p (start true)) (end-n (from [] l) p true e)
           (end-bit (from [] l) p true e)
-      go (no m d) e = refl
+      go (no m d) e = ap shut (field-carried w (d .n) (refused-few [] l p (start true) m d e))
 
 -- ---- what the code makes of a walk
 
@@ -153,27 +157,26 @@ module _ (s : List ℕ) (place : Place) {r : Walk} {c : Cursor} where
   unfolding sight seen-bytes
   bytes-good e g t = rw (e, ← g, t)
 
-  pub bytes-left : {v : ℕ} {b : Bool} → r ≡ On v c → b ≡ ends-at s (c .bit) → b ≡ false
-      → sight (Shut (record { number = 7; place = place; a = c .bit; b = 0 })) ≡ seen-bytes (w-of place) s r
-  unfolding sight seen-bytes paper-refusal
-  bytes-left e g t = rw (e, ← g, t)
+  pub bytes-left : {v : ℕ} {b : Bool} (f : Fault) → r ≡ On v c → b ≡ ends-at s (c .bit) → b ≡ false
+      → paper-refusal f ≡ carried 7 (w-of place) (c .bit) 0 → sight (Shut f) ≡ seen-bytes (w-of place) s r
+  unfolding sight seen-bytes carried of-a-field
+  bytes-left f e g t h = rw (e, ← g, t) (ap shut h)
 
-  pub bytes-no : {m : ℕ} → r ≡ No m c
-      → sight (Shut (record { number = m; place = place; a = c .bit; b = 0 })) ≡ seen-bytes (w-of place) s r
-  unfolding sight seen-bytes paper-refusal
-  bytes-no e = rw e
+  pub bytes-no : {m : ℕ} (f : Fault) → r ≡ No m c → paper-refusal f ≡ carried m (w-of place) (c .bit) 0
+      → sight (Shut f) ≡ seen-bytes (w-of place) s r
+  unfolding sight seen-bytes
+  bytes-no f e h = rw e (ap shut h)
 
 module _ (l : List ℕ) (place : Place) {r : Walk} {c : Cursor} where
   pub list-good : {v : ℕ} → r ≡ On v c → c .n ≡ length l → sight (Open v (c .n) (c .bit)) ≡ seen-list (w-of place) l r
   unfolding sight seen-list
   list-good e g = rw (e, eq-eqb (c .n) (length l) g)
 
-  pub list-left : {v : ℕ} → r ≡ On v c → c .n ≢ length l
-      → sight (Shut (record { number = 7; place = place; a = c .n; b = 0 })) ≡ seen-list (w-of place) l r
-  unfolding sight seen-list paper-refusal
-  list-left e g = rw (e, ne-eqb (c .n) (length l) g)
+  pub list-left : {v : ℕ} (f : Fault) → r ≡ On v c → c .n ≢ length l → paper-refusal f ≡ carried 7 (w-of place) (c .n) 0
+      → sight (Shut f) ≡ seen-list (w-of place) l r
+  unfolding sight seen-list carried of-a-field
+  list-left f e g h = rw (e, ne-eqb (c .n) (length l) g) (ap shut h)
 
-  pub list-no : {m : ℕ} → r ≡ No m c
-      → sight (Shut (record { number = m; place = place; a = c .n; b = 0 })) ≡ seen-list (w-of place) l r
-  unfolding sight seen-list paper-refusal
-  list-no e = rw e
+  pub list-no : {m : ℕ} (f : Fault) → r ≡ No m c → paper-refusal f ≡ carried m (w-of place) (c .n) 0 → sight (Shut f) ≡ seen-list (w-of place) l r
+  unfolding sight seen-list
+  list-no f e h = rw e (ap shut h)

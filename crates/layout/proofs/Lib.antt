@@ -9,3 +9,4 @@ pub mod FirstFaults
 pub mod OneAnswer
 pub mod CallTrips
 pub mod OneFile
+pub mod Carrying

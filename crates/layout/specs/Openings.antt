@@ -15,6 +15,7 @@ use Rattle.terms.specs.Values.{nothing}
 use Rattle.layout.specs.declared.Opening.{Opening}
 use Rattle.layout.specs.declared.Opening.the-variants.{Open, Shut}
 use Rattle.layout.specs.Files.{Opened, good, bad, refusal-at, ends-at, open-book, open-certificate}
+use Rattle.layout.specs.Carried.{carried}
 use Rattle.layout.specs.Answers.{paper-refusal}
 
 -- a number, the fields and the bits of a good file; or the refusal
@@ -43,11 +44,11 @@ pub record CertificateOpened (book s : List ℕ) (r : Opening) : Type 0 where
 -- what a walk over bytes, or over a list, comes to once its end is looked at
 unfoldable pub seen-bytes : ℕ → List ℕ → Walk → Sight
 seen-bytes w s (On v c) = cond (ends-at s (c .bit)) (sees v (c .n) (c .bit)) (shut (refusal-at 7 w (c .bit)))
-seen-bytes w s (No m c) = shut (refusal-at m w (c .bit))
+seen-bytes w s (No m c) = shut (carried m w (c .bit) 0)
 
 unfoldable pub seen-list : ℕ → List ℕ → Walk → Sight
 seen-list w l (On v c) = cond (eqb (c .n) (length l)) (sees v (c .n) (c .bit)) (shut (refusal-at 7 w (c .n)))
-seen-list w l (No m c) = shut (refusal-at m w (c .n))
+seen-list w l (No m c) = shut (carried m w (c .n) 0)
 
 -- how far a walk went
 unfoldable pub bits-of : Walk → ℕ

@@ -6,8 +6,9 @@ ghost use Prim.Native.Nat.{_≤_, _*_};
 ghost use lib.ListN.{length};
 ghost use Rattle.patterns.specs.Refusal.{certificate-place};
 ghost use Rattle.layout.specs.Files.{refusal-at, ends-at};
+ghost use Rattle.layout.specs.Carried.{carried};
 ghost use Rattle.layout.specs.Openings.{bits-of, sight, seen-bytes, seen-list, BookOpened, CertificateOpened, Beside};
-ghost use Rattle.layout.specs.Answers.{listing-beside, writing-beside, w-of, paper, refused-with};
+ghost use Rattle.layout.specs.Answers.{listing-beside, writing-beside, w-of, paper-refusal, paper, refused-with};
 ghost use Rattle.layout.specs.Promises.{Answers, BookRead, BookWritten, CertificateRead, CertificateWritten};
 
 // What a refusal speaks of.
@@ -39,16 +40,37 @@ pub enum Opening {
     Shut(Refusal),
 }
 
+// A refusal with what its number carries: 3 to 7 a place in a file, 9 to 16 a line and a part of it, the others neither.
+pub fn carried(number: u16, place: Place, a: usize, b: usize) -> Refusal
+    ensures { λ r. ⌜ paper-refusal r ≡ carried number (w-of place) a b ⌝ }
+{
+    match number {
+        3..=7 => Refusal {
+            number,
+            place,
+            a,
+            b: 0,
+        },
+        9..=16 => Refusal {
+            number,
+            place,
+            a,
+            b,
+        },
+        _ => Refusal {
+            number,
+            place,
+            a: 0,
+            b: 0,
+        },
+    }
+}
+
 // A refusal that speaks of a file as a whole.
 fn refused(number: u16, place: Place) -> Answer
     ensures { λ r. ⌜ paper r ≡ refused-with (refusal-at number (w-of place) 0) ⌝ }
 {
-    Answer::Refused(Refusal {
-        number,
-        place,
-        a: 0,
-        b: 0,
-    })
+    Answer::Refused(carried(number, place, 0, 0))
 }
 
 // Whether only zero bits follow a bit, up to the next whole byte.
@@ -72,23 +94,13 @@ fn opened(s: &[u8], place: Place, w: Walk) -> Opening
     ensures { λ r. ⌜ sight r ≡ seen-bytes (w-of place) (now (s .entry)) w ⌝ }
 {
     match w {
-        Walk::No(m, c) => Opening::Shut(Refusal {
-            number: m,
-            place,
-            a: c.bit,
-            b: 0,
-        }),
+        Walk::No(m, c) => Opening::Shut(carried(m, place, c.bit, 0)),
         Walk::On(v, c) => {
             let bit = c.bit;
             if ends(s, bit) {
                 return Opening::Open(v, c.n, bit);
             }
-            Opening::Shut(Refusal {
-                number: 7,
-                place,
-                a: bit,
-                b: 0,
-            })
+            Opening::Shut(carried(7, place, bit, 0))
         }
     }
 }
@@ -98,23 +110,13 @@ fn opened_list(l: &[u16], place: Place, w: Walk) -> Opening
     ensures { λ r. ⌜ sight r ≡ seen-list (w-of place) (now (l .entry)) w ⌝ }
 {
     match w {
-        Walk::No(m, c) => Opening::Shut(Refusal {
-            number: m,
-            place,
-            a: c.n,
-            b: 0,
-        }),
+        Walk::No(m, c) => Opening::Shut(carried(m, place, c.n, 0)),
         Walk::On(v, c) => {
             let n = c.n;
             if n == l.len() {
                 return Opening::Open(v, n, c.bit);
             }
-            Opening::Shut(Refusal {
-                number: 7,
-                place,
-                a: n,
-                b: 0,
-            })
+            Opening::Shut(carried(7, place, n, 0))
         }
     }
 }

@@ -4,7 +4,7 @@ use mathlib.Core.Path.{_≡_, refl, sym, subst, ap, _∙_}
 use mathlib.Core.Logic.{_≢_, ite, _⊎_, inl, inr}
 use mathlib.Core.Bool.{Bool, true, false, cond}
 use mathlib.Core.List.{List, [], _∷_, _++_, map, flatMap, append-nil, append-assoc}
-use mathlib.Core.Option.{Option, none, some, Option·some-injective, Option·some-ne-none}
+use mathlib.Core.Option.{Option, none, some, Option·some-injective, Option·none-ne-some}
 use native.Mathlib.Omega.{arith}
 use lib.Dec.{ltb}
 use lib.ListN.{length, getD, set, getElem?, length-set}
@@ -12,7 +12,8 @@ use lib.Seq.{getD-set-same, getD-set-other}
 use Rattle.bits.specs.Packed.{width}
 use Rattle.bits.proofs.Groups.{width-append}
 use Rattle.patterns.specs.Term.{fill}
-use Rattle.patterns.specs.Refusal.{line-place, closing-place}
+use Rattle.patterns.specs.Every.{Every}
+use Rattle.patterns.specs.Refusal.{Refusal, line-place, closing-place}
 use Rattle.patterns.specs.First.{Exp, Pair, Pace, one, from, to}
 use Rattle.patterns.specs.Edition.{reindex}
 use Rattle.patterns.specs.Derive.{Book}
@@ -21,29 +22,35 @@ use Rattle.patterns.specs.Demand.{Met, met?, present}
 use Rattle.patterns.specs.Judge.{Check, check, compare, line-checks, loop-checks, closing-checks, Placed, place, checks-from, checks, first-unmet, accept, refuse, verdict, judge}
 use Rattle.grammar.specs.Listing.{if-any, term-fields, claim-fields, kind-fields, kind-number, line-fields, closing-fields, certificate-fields}
 use Rattle.grammar.specs.Limits.{KindFits, LinesFit, ClosingFits, call-counts}
+use Rattle.layout.specs.Carried.{carried}
 use Rattle.verdicts.specs.Verdicts.{paper}
+use Rattle.verdicts.proofs.Parted.{Parted, parted-line, parted-closing}
 use Rattle.verdicts.specs.declared.Verdict.{Verdict as Ruling}
 use Rattle.checking.specs.declared.Read.{Read}
 use Rattle.checking.specs.declared.Found.{Found}
 use Rattle.checking.specs.declared.Found.the-variants.{Fault, Good}
 use Rattle.checking.specs.declared.Kind.the-variants.{Closing as AtClosing}
-use Rattle.checking.specs.declared.Subject.the-variants.{Plain, Used}
+use Rattle.checking.specs.declared.Subject.{Subject}
+use Rattle.checking.specs.declared.Subject.the-variants.{Empty, Used}
+use Rattle.checking.specs.declared.Behind.the-variants.{Nothing}
 use Rattle.instances.specs.Lying.{Lies, behind}
 use Rattle.instances.specs.Fillings.{entry, Fills as Tells}
 use Rattle.instances.specs.Instances.{Skips}
 use Rattle.fillings.specs.Listings.{Lists, Forgets}
 use Rattle.checking.specs.Placed.{Takes, RightAt, LeftAt, RuleAt, ClaimAt, PassesRight, Indexes}
 use Rattle.checking.specs.Known.{Known}
-use Rattle.checking.specs.Found.{fault, Finds, number-at, Checks}
+use Rattle.checking.specs.Subjects.{Means, PlainRight}
+use Rattle.checking.specs.Found.{fault, Finds}
+use Rattle.checking.specs.Asked.{asked-at, checks-of, end-of, Checks}
 use Rattle.unfolds.specs.Unfoldings.{UnfoldAt}
 use Rattle.descents.specs.Descents.{DescentAt}
-use Rattle.lines.specs.Certificates.{refusal-of, pace-of, NotesLine, KindAt, LineAt, ClosingBy, ClosingAt, LinesAt, Prepares, JudgesLines}
+use Rattle.lines.specs.Certificates.{pace-of, NotesLine, KindAt, LineAt, ClosingFound, ClosingBy, ClosingAt, LinesAt, Prepares, JudgesLines}
 use Rattle.instances.proofs.Lying.{lies-front, lies-back}
 use Rattle.checking.proofs.Passing.{term-at}
 use Rattle.checking.proofs.Using.{rest-at}
-use Rattle.checking.proofs.Frames.{below-less, kept-below, known-below, found-below, entry-above}
-use Rattle.checking.proofs.Meanings.{left-means, filled-means, right-none, right-left}
-use Rattle.checking.proofs.Finding.{at-fault, at-good, finds-stop, finds-then, finds-met, finds-unmet}
+use Rattle.checking.proofs.Frames.{below-less, kept-below, known-below, found-below, tells-below, entry-above}
+use Rattle.checking.proofs.Meanings.{filled-means}
+use Rattle.checking.proofs.Finding.{fault-unmet, at-fault, at-good, finds-stop, finds-then}
 use Rattle.unfolds.proofs.Unfoldings.{named, finds-given}
 
 -- ---- a line's claim among the others
@@ -176,6 +183,22 @@ line-at {book} {cert} {w} {v} {after} {at} {k} {right} {rest} {t} {r} tt' skips 
 
 -- ---- the verdict of placed checks
 
+abbrev refusal-of : ℕ → ℕ → ℕ → ℕ → Refusal
+refusal-of number w a b = record { number = number; w = w; a = a; b = b }
+
+-- the first check that is not met carries its line and its part
+fault-carried : (ks : List (Check Exp)) → Every Parted ks → (n p w a : ℕ) → fault ks ≡ some (n, p) → carried n w a p ≡ refusal-of n w a p
+unfolding fault Every
+fault-carried [] h n p w a e = let z : _≡_ {A = ℕ} 0 1 = cc in absurd (omega arith)
+fault-carried (k ∷ ks) h n p w a e = go (met? one (k .demand)) (λ x. fault-carried ks (h .1) n p w a x) e
+  where
+    go : (d : Dec (Met one (k .demand))) → (fault ks ≡ some (n, p) → carried n w a p ≡ refusal-of n w a p)
+        → ite d (fault ks) (some (k .number, k .part)) ≡ some (n, p) → carried n w a p ≡ refusal-of n w a p
+    go (yes q) rest x = rest x
+    go (no q) rest x =
+        let y : _≡_ {A = ℕ × ℕ} (k .number, k .part) (n, p) = Option·some-injective _ _ x in
+        subst (λ (z : ℕ × ℕ). carried (z .0) w a (z .1) ≡ refusal-of (z .0) w a (z .1)) y (h .0 .told w a)
+
 module _ (w a : ℕ) (ps : List (Placed one)) where
   placed-none : (ks : List (Check Exp)) → fault ks ≡ none → first-unmet one (map (place one w a) ks ++ ps) ≡ first-unmet one ps
   unfolding fault first-unmet
@@ -212,68 +235,77 @@ closed-none a ks c e =
 
 -- ---- the closing
 
-module _ {book cert w : List ℕ} {line : ℕ} (k α : ℕ) {left right : ℕ} {c : Read} (el : left ≡ getD w (256 + line) 0) (er : right ≡ getD w (512 + line) 0) (t : Takes cert 1 right c) where
-  -- the claim that the closing names
-  closed-claim : {ars : List ℕ} {B : Book Exp} {es : List (Claim Exp)} → Known book cert w ars B es → (n : ℕ) → n ≡ line → (l : Claim Exp) → getElem? es n ≡ some l
-      → ClaimAt cert ars left right l
-  closed-claim {ars} known n e l found =
-      let a : getD w (256 + n) 0 ≡ left = ap (λ j. getD w (256 + j) 0) e ∙ sym el in
-      let b : getD w (512 + n) 0 ≡ right = ap (λ j. getD w (512 + j) 0) e ∙ sym er in
-      subst (λ j. ClaimAt cert ars j right l) a (subst (λ j. ClaimAt cert ars (getD w (256 + n) 0) j l) b (known .claim n l found))
+-- the claim that the closing names
+closed-claim : {book cert w ars : List ℕ} {B : Book Exp} {es : List (Claim Exp)} {line left right : ℕ} → left ≡ getD w (256 + line) 0
+    → right ≡ getD w (512 + line) 0 → Known book cert w ars B es → (n : ℕ) → n ≡ line → (l : Claim Exp) → getElem? es n ≡ some l
+    → ClaimAt cert ars left right l
+closed-claim {cert = cert} {w = w} {ars = ars} {left = left} {right = right} el er known n e l found =
+    let a : getD w (256 + n) 0 ≡ left = ap (λ j. getD w (256 + j) 0) e ∙ sym el in
+    let b : getD w (512 + n) 0 ≡ right = ap (λ j. getD w (512 + j) 0) e ∙ sym er in
+    subst (λ j. ClaimAt cert ars j right l) a (subst (λ j. ClaimAt cert ars (getD w (256 + n) 0) j l) b (known .claim n l found))
 
-  pub closing-empty : {r : Ruling} → c .value ≡ 0 → paper r ≡ refuse (refusal-of 14 closing-place line 0) → ClosingBy book cert line k α w w r
-  unfolding closing-checks Met
-  closing-empty {r} z v = record {
+module _ {book cert w v : List ℕ} {left right : ℕ} {r : Found} (first : Checks book cert AtClosing 0 right Nothing Empty Empty w v r) where
+  there-found : {ars : List ℕ} {B : Book Exp} {es : List (Claim Exp)} → Known book cert w ars B es → {l : Claim Exp} → ClaimAt cert ars left right l
+      → Finds (check 14 0 (present (l .right)) ∷ []) 0 r
+  unfolding asked-at checks-of end-of Means
+  there-found {ars} known here = first .told ars (known .arity) _ (here .right-at) none 0 (refl, refl) none 0 (refl, refl)
+
+  pub closing-empty : {line k α n p : ℕ} → left ≡ getD w (256 + line) 0 → right ≡ getD w (512 + line) 0 → r ≡ Fault n p
+      → ClosingFound book cert line k α w v (Fault n p)
+  unfolding closing-checks
+  closing-empty el er q = record {
     told = λ ars B es known d e p filled small.
         let n = named es (d .line) small in
-        let here = closed-claim known (d .line) e (n .claim) (n .found) in
-        let found : Finds (closing-checks one es d) 0 (Fault 14 0) =
-        finds-given _ (n .found) (finds-stop _ (finds-unmet {end = 0} [] (λ (x : n .claim .right ≢ none). x (is-empty (n .claim .right) (here .right-at)))) refl) in
-        v ∙ ap (λ a. refuse (refusal-of 14 closing-place a 0)) (sym e) ∙ sym (closed-fault (d .line) (closing-checks one es d) 14 0 d (at-fault found refl));
-    size = refl;
+        (0, finds-given _ (n .found) (finds-stop _ (there-found known (closed-claim el er known (d .line) e (n .claim) (n .found))) q));
+    size = first .below .size;
   }
-    where
-      is-empty : {ars : List ℕ} (m : Mark Exp) → RightAt cert ars right m → m ≡ none
-      is-empty m q = right-none t q z
 
-  module _ {v : List ℕ} {f : Found} (ne : c .value ≢ 0) (loops : Checks book cert AtClosing 1 (Plain (c .at) 1 α) (Used left 1 (α + k)) w v f) where
-    loop-found : {ars : List ℕ} {B : Book Exp} {es : List (Claim Exp)} → Known book cert w ars B es → (d : Closing Exp Pace) → d .line ≡ line
-        → d .pace ≡ pace-of k α → Tells book cert w 896 (by (d .fills)) → d .line < length es → (end : ℕ) × Finds (closing-checks one es d) end f
-    unfolding closing-checks loop-checks number-at from to Met if-any
-    loop-found {ars} {B} {es} known d e p filled small =
-        let n = named es (d .line) small in
-        let here = closed-claim known (d .line) e (n .claim) (n .found) in
-        go (n .claim) (n .found) here (n .claim .right) refl
-      where
-        go : (l : Claim Exp) → getElem? es (d .line) ≡ some l → ClaimAt cert ars left right l → (m : Mark Exp) → l .right ≡ m
-            → (end : ℕ) × Finds (closing-checks one es d) end f
-        go l found here none q = absurd (ne (t .told 0 [] (subst (λ m. Lies cert right (if-any term-fields m)) q (here .right-at .lies)) .0))
-        go l found here (some u) q =
-            let right-at : RightAt cert ars right (some u) = subst (RightAt cert ars right) q (here .right-at) in
-            let first = left-means 1 α known (right-left t right-at) in
-            let second = filled-means (d .fills) 1 (α + k) known filled (here .left-at) in (
-              behind (c .at) u,
-              finds-given _ found (subst (λ m. Finds ((check 14 0 (present m) ∷ []) ++ loop-checks one l d m) (behind (c .at) u) f) (sym q)
-                  (finds-then {end = behind (c .at) u} {e = 0} (finds-met (λ z. Option·some-ne-none u z)) refl
-                  (λ z. subst (λ s. Finds (compare 15 1 (some (reindex one (1, s .α) u)) (some (fill (by (d .fills)) (reindex one (1, s .α + s .k) (l .left))))) (behind (c .at) u) f) (sym p)
-                  (loops .told _ _ first _ _ second)))),
-            )
+  module _ (k α : ℕ) {x : ℕ} {from-right : Subject} {after : List ℕ} {s : Found} (good : r ≡ Good x) (plain : PlainRight cert right 1 α from-right) (second : Checks book cert AtClosing 1 right Nothing from-right (Used left 1 (α + k)) v after s) where
+    loop-found : {ars : List ℕ} {B : Book Exp} {es : List (Claim Exp)} → Known book cert w ars B es → (d : Closing Exp Pace) → d .pace ≡ pace-of k α
+        → Tells book cert w 896 (by (d .fills)) → (l : Claim Exp) → ClaimAt cert ars left right l → (m : Mark Exp) → l .right ≡ m
+        → (end : ℕ) × Finds (loop-checks one l d m) end s
+    unfolding loop-checks from to asked-at checks-of end-of Met
+    loop-found {ars} {B} {es} known d p filled l here none q =
+        absurd (Option·none-ne-some _ (sym (at-good (there-found known here) good .0) ∙ fault-unmet _ [] (λ z. z q)))
+    loop-found {ars} {B} {es} known d p filled l here (some u) q =
+        let still = known-below (below-less (omega arith) (first .below)) known in
+        let right-at : RightAt cert ars right (some u) = subst (RightAt cert ars right) q (here .right-at) in
+        let o = plain .told book v ars B es still (some u) right-at in
+        let t = filled-means (d .fills) 1 (α + k) still (tells-below (omega arith) (first .below) filled) (here .left-at) in (
+          o .0,
+          subst (λ c. Finds (compare 15 1 (some (reindex one (1, c .α) u)) (some (fill (by (d .fills)) (reindex one (1, c .α + c .k) (l .left))))) (o .0) s) (sym p)
+              (second .told ars (known .arity) _ right-at _ _ (o .1) _ _ t),
+        )
 
-    pub closing-fault : {n p : ℕ} {r : Ruling} → f ≡ Fault n p → paper r ≡ refuse (refusal-of n closing-place line p) → ClosingBy book cert line k α w v r
-    closing-fault {n} {p} q e = record {
-      told = λ ars B es known d i pc filled small.
-          e ∙ ap (λ a. refuse (refusal-of n closing-place a p)) (sym i)
-          ∙ sym (closed-fault (d .line) (closing-checks one es d) n p d (at-fault (loop-found known d i pc filled small .1) q));
-      size = loops .below .size;
+    pub closing-loop : {line : ℕ} → left ≡ getD w (256 + line) 0 → right ≡ getD w (512 + line) 0 → ClosingFound book cert line k α w after s
+    unfolding closing-checks
+    closing-loop el er = record {
+      told = λ ars B es known d e p filled small.
+          let n = named es (d .line) small in
+          let here = closed-claim el er known (d .line) e (n .claim) (n .found) in
+          let loop = loop-found known d p filled (n .claim) here (n .claim .right) refl in
+          (loop .0, finds-given _ (n .found) (finds-then (there-found known here) good (λ z. loop .1)));
+      size = second .below .size ∙ first .below .size;
     }
 
-    pub closing-good : {x : ℕ} {r : Ruling} → f ≡ Good x → paper r ≡ accept line (pace-of k α) → ClosingBy book cert line k α w v r
-    closing-good q e = record {
-      told = λ ars B es known d i p filled small.
-          e ∙ ap (λ a. accept a (pace-of k α)) (sym i) ∙ ap (accept (d .line)) (sym p)
-          ∙ sym (closed-none (d .line) (closing-checks one es d) d (at-good (loop-found known d i p filled small .1) q .0));
-      size = loops .below .size;
-    }
+module _ {book cert w v : List ℕ} {line k α : ℕ} {f : Found} (found : ClosingFound book cert line k α w v f) where
+  pub closing-fault : {n p : ℕ} {r : Ruling} → f ≡ Fault n p → paper r ≡ refuse (carried n closing-place line p) → ClosingBy book cert line k α w v r
+  closing-fault {n} {p} q e = record {
+    told = λ ars B es known d i pc filled small.
+        let first = at-fault (found .told ars B es known d i pc filled small .1) q in
+        e ∙ ap (λ a. refuse (carried n closing-place a p)) (sym i)
+        ∙ ap refuse (fault-carried (closing-checks one es d) (parted-closing one es d) n p closing-place (d .line) first)
+        ∙ sym (closed-fault (d .line) (closing-checks one es d) n p d first);
+    size = found .size;
+  }
+
+  pub closing-good : {x : ℕ} {r : Ruling} → f ≡ Good x → paper r ≡ accept line (pace-of k α) → ClosingBy book cert line k α w v r
+  closing-good q e = record {
+    told = λ ars B es known d i p filled small.
+        e ∙ ap (λ a. accept a (pace-of k α)) (sym i) ∙ ap (accept (d .line)) (sym p)
+        ∙ sym (closed-none (d .line) (closing-checks one es d) d (at-good (found .told ars B es known d i p filled small .1) q .0));
+    size = found .size;
+  }
 
 pub closing-at : {book cert w v after : List ℕ} {at end : ℕ} {c d e : Read} {r : Ruling} → Takes cert 8 at c → Takes cert 12 (c .at) d → Takes cert 12 (d .at) e
     → Lists book cert 896 (e .at) w v end → ClosingBy book cert (c .value) (d .value) (e .value) v after r → ClosingAt book cert at w after r
@@ -304,7 +336,7 @@ lines-none {book} {cert} {w} {after} {at} {k} {n} {r} z p = record { told = go; 
     go ars B es known len (l ∷ ls) c e fits cf lies = absurd (omega arith)
 
 module _ {book cert w v : List ℕ} {at k n : ℕ} {f : Found} (ne : n ≢ 0) (small : k + n ≤ 255) (first : LineAt book cert at k w v f) where
-  pub lines-fault : {m p : ℕ} {r : Ruling} → f ≡ Fault m p → paper r ≡ refuse (refusal-of m line-place k p) → LinesAt book cert at k n w v r
+  pub lines-fault : {m p : ℕ} {r : Ruling} → f ≡ Fault m p → paper r ≡ refuse (carried m line-place k p) → LinesAt book cert at k n w v r
   unfolding flatMap checks-from LinesFit
   lines-fault {m} {p} {r} q e = record { told = go; size = first .size }
     where
@@ -316,7 +348,9 @@ module _ {book cert w v : List ℕ} {at k n : ℕ} {f : Found} (ne : n ≢ 0) (s
           let all = append-assoc (line-fields l) (flatMap line-fields ls) (closing-fields c) in
           let here = lies-front cert at (line-fields l) (flatMap line-fields ls ++ closing-fields c) (subst (Lies cert at) all lies) in
           let x = first .told ars B es known len (omega arith) l (fits .0) (fits .1) here in
-          e ∙ sym (placed-fault line-place k _ (line-checks one es B (l .claim) (l .kind)) m p c (at-fault (x .0) q))
+          let found = at-fault (x .0) q in
+          e ∙ ap refuse (fault-carried _ (parted-line one es B (l .claim) (l .kind)) m p line-place k found)
+          ∙ sym (placed-fault line-place k _ (line-checks one es B (l .claim) (l .kind)) m p c found)
 
   pub lines-on : {x : ℕ} {after : List ℕ} {r : Ruling} → f ≡ Good x → LinesAt book cert x (k + 1) (n - 1) v after r → LinesAt book cert at k n w after r
   unfolding flatMap checks-from LinesFit

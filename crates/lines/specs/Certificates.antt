@@ -4,7 +4,7 @@ use mathlib.Core.Path.{_≡_}
 use mathlib.Core.List.{List, [], _∷_, _++_, map, flatMap}
 use lib.ListN.{length, getD}
 use Rattle.bits.specs.Packed.{width}
-use Rattle.patterns.specs.Refusal.{Refusal, closing-place}
+use Rattle.patterns.specs.Refusal.{closing-place}
 use Rattle.patterns.specs.First.{Exp, Pair, Pace, one}
 use Rattle.patterns.specs.Derive.{Book}
 use Rattle.patterns.specs.Certificate.{by, Claim, Line, Closing, Certificate}
@@ -20,9 +20,6 @@ use Rattle.instances.specs.Fillings.{Fills as Tells}
 use Rattle.checking.specs.Placed.{Known-arities, RightAt, LeftAt}
 use Rattle.checking.specs.Known.{Below, Known}
 use Rattle.checking.specs.Found.{Finds}
-
-abbrev pub refusal-of : ℕ → ℕ → ℕ → ℕ → Refusal
-refusal-of number w a b = record { number = number; w = w; a = a; b = b }
 
 abbrev pub pace-of : ℕ → ℕ → Pace
 pace-of k α = record { k = k; α = α }
@@ -49,7 +46,14 @@ pub record LineAt (book cert : List ℕ) (at k : ℕ) (w after : List ℕ) (r : 
       → Finds (line-checks one es B (l .claim) (l .kind)) (at + width (line-fields l)) r × Known book cert after ars B (es ++ (l .claim ∷ []))
   pub size : length after ≡ length w
 
--- the verdict of a closing whose filling stands in the table
+-- the checks of a closing whose filling stands in the table
+pub record ClosingFound (book cert : List ℕ) (line k α : ℕ) (w after : List ℕ) (r : Found) : Type 0 where
+  pub told : (ars : List ℕ) (B : Book Exp) (es : List (Claim Exp)) → Known book cert w ars B es
+      → (c : Closing Exp Pace) → c .line ≡ line → c .pace ≡ pace-of k α → Tells book cert w 896 (by (c .fills)) → c .line < length es
+      → (end : ℕ) × Finds (closing-checks one es c) end r
+  pub size : length after ≡ length w
+
+-- and its verdict
 pub record ClosingBy (book cert : List ℕ) (line k α : ℕ) (w after : List ℕ) (r : Ruling) : Type 0 where
   pub told : (ars : List ℕ) (B : Book Exp) (es : List (Claim Exp)) → Known book cert w ars B es
       → (c : Closing Exp Pace) → c .line ≡ line → c .pace ≡ pace-of k α → Tells book cert w 896 (by (c .fills)) → c .line < length es

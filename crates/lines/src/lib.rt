@@ -1,18 +1,19 @@
 // The lines of a certificate, each over those before it, and the closing: the verdict on two good files.
+use checking::Behind;
 use checking::Found;
 use checking::Kind;
 use checking::Subject;
 use layout::Place;
-use layout::Refusal;
 use verdicts::Acceptance;
 use verdicts::Verdict;
 ghost use mathlib.Core.Path.{_≡_};
 ghost use Prim.Native.Nat.{_+_, _≤_, _<_};
 ghost use lib.ListN.{length};
 ghost use Rattle.patterns.specs.Judge.{accept, refuse};
+ghost use Rattle.layout.specs.Carried.{carried};
 ghost use Rattle.layout.specs.Answers.{w-of};
 ghost use Rattle.verdicts.specs.Verdicts.{paper};
-ghost use Rattle.lines.specs.Certificates.{refusal-of, pace-of, NotesLine, KindAt, LineAt, ClosingBy, ClosingAt, LinesAt, Prepares, JudgesLines};
+ghost use Rattle.lines.specs.Certificates.{pace-of, NotesLine, KindAt, LineAt, ClosingFound, ClosingBy, ClosingAt, LinesAt, Prepares, JudgesLines};
 
 // Where both sides of line k lie, noted.
 fn note_line(w: &mut [u64], k: usize, left: usize, right: usize)
@@ -55,7 +56,49 @@ fn line(book: &[u8], certificate: &[u8], w: &mut [u64], at: usize, k: usize) -> 
     behind_claim(book, certificate, w, tag.value, left, right, rest)
 }
 
-// The closing's part 1, its filling indexed: the verdict.
+// Both parts of the closing, its filling indexed.
+fn closing_parts(
+    book: &[u8],
+    certificate: &[u8],
+    w: &mut [u64],
+    line: usize,
+    k: u16,
+    alpha: u16,
+) -> Found
+    requires { ⌜ (8192 ≤ length (now w)) × (line < 256) × (k < 4096) × (alpha < 4096) ⌝ }
+    ensures { λ r. ⌜ ClosingFound (now (book .entry)) (now (certificate .entry)) line k alpha (now (w .entry)) (now (w .exit)) r ⌝ }
+{
+    let left = checking::noted(w, 256 + line);
+    let right = checking::noted(w, 512 + line);
+    let from = checking::plain_right(certificate, right, 1, alpha);
+    let to = Subject::Used(left, 1, alpha + k);
+    match checking::check(
+        book,
+        certificate,
+        w,
+        Kind::Closing,
+        0,
+        right,
+        Behind::Nothing,
+        Subject::Empty,
+        Subject::Empty,
+    ) {
+        Found::Fault(n, p) => Found::Fault(n, p),
+        Found::Good(_) => checking::check(
+            book,
+            certificate,
+            w,
+            Kind::Closing,
+            1,
+            right,
+            Behind::Nothing,
+            from,
+            to,
+        ),
+    }
+}
+
+// The verdict of a closing, its filling indexed.
 fn closing_by(
     book: &[u8],
     certificate: &[u8],
@@ -67,36 +110,17 @@ fn closing_by(
     requires { ⌜ (8192 ≤ length (now w)) × (line < 256) × (k < 4096) × (alpha < 4096) ⌝ }
     ensures { λ r. ⌜ ClosingBy (now (book .entry)) (now (certificate .entry)) line k alpha (now (w .entry)) (now (w .exit)) r ⌝ }
 {
-    let left = checking::noted(w, 256 + line);
-    let right = checking::field(certificate, 1, checking::noted(w, 512 + line));
-    if right.value == 0 {
-        return refused(14, Place::Closing, line, 0);
-    }
-    let from = Subject::Plain(right.at, 1, alpha);
-    match checking::check(
-        book,
-        certificate,
-        w,
-        Kind::Closing,
-        1,
-        from,
-        Subject::Used(left, 1, alpha + k),
-    ) {
+    match closing_parts(book, certificate, w, line, k, alpha) {
         Found::Fault(n, p) => refused(n, Place::Closing, line, p),
         Found::Good(_) => accepted(line, k, alpha),
     }
 }
 
-// A refusal.
+// A refusal, with what its number carries.
 fn refused(number: u16, place: Place, a: usize, b: usize) -> Verdict
-    ensures { λ r. ⌜ paper r ≡ refuse (refusal-of number (w-of place) a b) ⌝ }
+    ensures { λ r. ⌜ paper r ≡ refuse (carried number (w-of place) a b) ⌝ }
 {
-    Verdict::Refused(Refusal {
-        number,
-        place,
-        a,
-        b,
-    })
+    Verdict::Refused(layout::carried(number, place, a, b))
 }
 
 // The closing's own numbers.

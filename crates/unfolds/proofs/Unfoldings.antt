@@ -2,12 +2,10 @@
 use Prim.Native.Nat.{ℕ, zero, suc, _+_, _-_, _≤_, _<_}
 use mathlib.Core.Path.{_≡_, refl, sym, subst, ap, _∙_}
 use mathlib.Core.Logic.{_≢_}
-use mathlib.Core.Bool.{Bool, true, false}
 use mathlib.Core.List.{List, [], _∷_, _++_, flatMap, append-assoc}
-use mathlib.Core.Option.{Option, none, some, Option·some-injective, Option·some-ne-none}
+use mathlib.Core.Option.{Option, none, some, Option·some-injective}
 use native.Mathlib.Omega.{arith}
-use borrow.Author.Tests.{eq-eqb, ne-eqb}
-use lib.Dec.{eqb}
+use borrow.Author.Tests.{ne-eqb}
 use lib.ListN.{length, getD, getElem?}
 use Rattle.bits.specs.Packed.{width}
 use Rattle.bits.proofs.Groups.{width-append}
@@ -17,16 +15,16 @@ use Rattle.patterns.specs.Every.{Every}
 use Rattle.patterns.specs.Derive.{Rule, Book}
 use Rattle.patterns.specs.Certificate.{Fills, by, Mark, Claim, Use, Stop, fact, call, unfolds}
 use Rattle.patterns.specs.Checks.{instance, instance-mark}
-use Rattle.patterns.specs.Demand.{empty, Met}
 use Rattle.patterns.specs.Judge.{Check, compare, given, pending, parts, stops, line-checks}
 use Rattle.grammar.specs.Listing.{Fields, if-any, term-fields, rule-fields, use-fields, filling-fields, stop-fields, stop-number, kind-fields}
 use Rattle.grammar.specs.Limits.{RootFits, UseFits, LastFits, StopFits, KindFits, call-counts}
-use Rattle.table.specs.Answer.{Says}
-use Rattle.table.proofs.Comparing.{says-true, says-false}
 use Rattle.checking.specs.declared.Read.{Read}
 use Rattle.checking.specs.declared.Found.{Found}
 use Rattle.checking.specs.declared.Found.the-variants.{Fault, Good}
 use Rattle.checking.specs.declared.Kind.the-variants.{Unfold}
+use Rattle.checking.specs.declared.Behind.{Behind}
+use Rattle.checking.specs.declared.Behind.the-variants.{Judged, Pending, Nothing}
+use Rattle.checking.specs.declared.Asked.the-variants.{Led}
 use Rattle.checking.specs.declared.Instance.{Instance}
 use Rattle.checking.specs.declared.Subject.{Subject}
 use Rattle.checking.specs.declared.Subject.the-variants.{Empty, Call, Plain, Used}
@@ -35,57 +33,33 @@ use Rattle.fillings.specs.Listings.{Lists}
 use Rattle.checking.specs.Placed.{Takes, RightAt, LeftAt, RuleAt}
 use Rattle.checking.specs.Known.{Scene, Uses, ReadsUse}
 use Rattle.checking.specs.Subjects.{Means, PlainRight, UsedRight}
-use Rattle.checking.specs.Found.{Finds, number-at, Checks}
-use Rattle.unfolds.specs.Unfoldings.{EmptyRight, Pends, Spends, EndsAt, CallsAt, Unfolding, StopsBy, CallUsed, PartBy, LastPart, EndsBy, EndsUsed, Ends, Parts, Stops, UnfoldsBy, UnfoldAt}
+use Rattle.checking.specs.Found.{Finds}
+use Rattle.checking.specs.Rights.{lead}
+use Rattle.checking.specs.Asked.{asked-at, checks-of, end-of, Checks}
+use Rattle.unfolds.specs.Unfoldings.{BehindStop, EndsAt, CallsAt, Unfolding, StopsBy, PartBy, EndsBy, EndsUsed, Ends, Parts, Stops, UnfoldsBy, UnfoldAt}
 use Rattle.instances.proofs.Lying.{lies-front, lies-back}
 use Rattle.checking.proofs.Using.{rest-at}
-use Rattle.checking.proofs.Frames.{below-then, below-less, below-self, kept-below, known-below, scene-below, uses-below}
+use Rattle.checking.proofs.Frames.{below-then, below-less, kept-below, known-below, scene-below, uses-below}
 use Rattle.checking.proofs.Meanings.{call-means, left-itself, used-means, right-itself}
-use Rattle.checking.proofs.Finding.{fault-none, finds-fault, finds-last, finds-stop, finds-then, finds-met, finds-unmet, finds-none, finds-ending}
+use Rattle.checking.proofs.Finding.{finds-fault, finds-last, finds-stop, finds-then, finds-ending}
 
--- ---- the empty mark
+-- ---- what stands behind the call where an unfold stops
 
-pub empty-right : {cert : List ℕ} {at : ℕ} {c : Read} → Takes cert 1 at c → EmptyRight cert at (eqb (c .value) 0)
-unfolding if-any Says
-empty-right {cert} {at} {c} t = record { told = go }
+pub stays-pending : {j count : ℕ} → j < count → BehindStop j count Pending
+unfolding lead pending
+stays-pending {j} {count} l = record { told = go }
   where
-    go : (ars : List ℕ) (m : Mark Exp) → RightAt cert ars at m → Says (m ≡ none) (eqb (c .value) 0)
-    go ars none r = subst (Says _) (sym (eq-eqb _ _ (t .told 0 [] (r .lies) .0))) refl
-    go ars (some u) r =
-        subst (Says _) (sym (ne-eqb (c .value) 0 (λ z. omega (arith, t .told 1 (term-fields u) (r .lies) .0)))) (Option·some-ne-none u)
+    go : (vs : List Pattern) → count ≡ j + length vs → (m : Mark Exp) → lead Pending 11 j m ≡ pending j vs m
+    go [] e m = absurd (omega arith)
+    go (v ∷ vs) e m = refl
 
-module _ {cert : List ℕ} {right j : ℕ} {b : Bool} (e : EmptyRight cert right b) where
-  pub spends-met : b ≡ true → Spends cert right j (Good 0)
-  unfolding Met
-  spends-met q = record { told = λ ars m a. finds-met (says-true _ (e .told ars m a) q) }
-
-  pub spends-unmet : b ≡ false → Spends cert right j (Fault 11 j)
-  unfolding Met
-  spends-unmet q = record { told = λ ars m a. finds-unmet [] (says-false _ (e .told ars m a) q) }
-
-  pub pends-unmet : {count : ℕ} → j < count → b ≡ true → Pends cert right j count (Fault 11 j)
-  unfolding pending Met
-  pends-unmet {count} l q = record { told = λ ars m a vs c. go m vs c (says-true _ (e .told ars m a) q) }
-    where
-      go : (m : Mark Exp) (vs : List Pattern) → count ≡ j + length vs → m ≡ none → Finds (pending j vs m) 0 (Fault 11 j)
-      go m [] c h = absurd (omega arith)
-      go m (v ∷ vs) c h = finds-unmet [] (λ n. n h)
-
-  pub pends-met : {count : ℕ} → b ≡ false → Pends cert right j count (Good 0)
-  unfolding pending Met
-  pends-met {count} q = record { told = λ ars m a vs c. go m vs (says-false _ (e .told ars m a) q) }
-    where
-      go : (m : Mark Exp) (vs : List Pattern) → m ≢ none → Finds (pending j vs m) 0 (Good 0)
-      go m [] h = finds-none fault-none
-      go m (v ∷ vs) h = finds-met h
-
-pub pends-nothing : {cert : List ℕ} {right j count : ℕ} → count ≤ j → Pends cert right j count (Good 0)
-unfolding pending
-pends-nothing {cert} {right} {j} {count} l = record { told = λ ars m a vs q. go m vs q }
+pub stays-none : {j count : ℕ} → count ≤ j → BehindStop j count Nothing
+unfolding lead pending
+stays-none {j} {count} l = record { told = go }
   where
-    go : (m : Mark Exp) (vs : List Pattern) → count ≡ j + length vs → Finds (pending j vs m) 0 (Good 0)
-    go m [] q = finds-none fault-none
-    go m (v ∷ vs) q = absurd (omega arith)
+    go : (vs : List Pattern) → count ≡ j + length vs → (m : Mark Exp) → lead Nothing 11 j m ≡ pending j vs m
+    go [] e m = refl
+    go (v ∷ vs) e m = absurd (omega arith)
 
 -- ---- the end of a line
 
@@ -96,12 +70,12 @@ pub ends-good : {found : Found} {at x : ℕ} → found ≡ Good x → EndsAt fou
 ends-good q = record { told = λ ks e h. finds-last h q }
 
 pub stops-by : {book cert w after : List ℕ} {right at : ℕ} {own theirs : Subject} {found r : Found} → PlainRight cert right 1 0 own
-    → Checks book cert Unfold 15 own theirs w after found → EndsAt found at r → StopsBy book cert right theirs at w after r
-unfolding number-at
+    → Checks book cert Unfold 15 right Nothing own theirs w after found → EndsAt found at r → StopsBy book cert right theirs at w after r
+unfolding asked-at checks-of end-of
 stops-by {book} {cert} {w} {after} {right} {at} {own} {theirs} p c e = record {
   told = λ ars B es m known a k f x.
       let o = p .told book w ars B es known m a in
-      e .told (compare 12 15 m k) (o .0) (c .told m (o .0) (subst (λ n. Means book cert w own n (o .0)) (right-itself m) (o .1)) k f x);
+      e .told (compare 12 15 m k) (o .0) (c .told ars (known .arity) m a m (o .0) (subst (λ n. Means book cert w own n (o .0)) (right-itself m) (o .1)) k f x);
   below = below-less (omega arith) (c .below);
 }
 
@@ -116,69 +90,47 @@ first-fits : {book ars : List ℕ} {at : ℕ} {v : Pattern} {vs : List Pattern} 
 unfolding Every
 first-fits c = c .fits .0
 
-at-ten : (j : ℕ) → 1 ≤ j → j ≤ 8 → number-at Unfold j ≡ 10
-unfolding number-at
-at-ten j l h = rw (ne-eqb j 0 (λ z. omega arith), ne-eqb j 15 (λ z. omega arith))
+-- at the parts of calls
+at-call : (j : ℕ) → 1 ≤ j → j ≤ 8 → asked-at Unfold j ≡ Led 11 10
+unfolding asked-at
+at-call j l h = rw (ne-eqb j 0 (λ z. omega arith), ne-eqb j 15 (λ z. omega arith))
 
-pub call-used : {book cert w after : List ℕ} {j at : ℕ} {used : Instance} {r : Found}
-    → Checks book cert Unfold j (Call at) (Used (used .left) (used .i) (used .j)) w after r → CallUsed book cert j at used w after r
-call-used {book} {cert} {w} {after} {j} {at} {used} {r} c = record {
+pub part-by : {book cert w after : List ℕ} {j at : ℕ} {q : Behind} {used : Instance} {r : Found}
+    → Checks book cert Unfold j (used .right) q (Call at) (Used (used .left) (used .i) (used .j)) w after r → PartBy book cert j q at used w after r
+unfolding checks-of end-of
+part-by {book} {cert} {w} {after} {j} {at} {q} {used} {r} c = record {
   told = λ ars B es θ s v vs count a u d x.
-      subst (λ n. Finds (compare n j (some (fill (by θ) v)) (some (instance one u (d .left)))) (behind at v) r)
-      (at-ten j (a .first) (omega (arith, a .counted, a .few)))
-      (c .told _ _ (call-means s (first-fits a) (first-lies a)) _ _ (used-means (s .known) x));
+      subst (λ n. Finds (checks-of n j q (d .right) (some (fill (by θ) v)) (some (instance one u (d .left)))) (end-of n (behind at v)) r)
+      (at-call j (a .first) (omega (arith, a .counted, a .few)))
+      (c .told ars (s .known .arity) _ (x .claim-at .right-at) _ _ (call-means s (first-fits a) (first-lies a)) _ _ (used-means (s .known) x));
   below = c .below;
 }
 
--- ---- a part before the last
-
-module _ {book cert : List ℕ} {j at : ℕ} {used : Instance} {q : Found} (k : Spends cert (used .right) j q) where
-  pub part-unspent : {w : List ℕ} {n p : ℕ} → q ≡ Fault n p → PartBy book cert j at used w w (Fault n p)
-  part-unspent {w} e = record {
-    told = λ ars B es θ s v vs count a u c x. finds-stop _ (k .told ars (c .right) (x .claim-at .right-at)) e;
-    below = below-self 1024 w;
-  }
-
-  pub part-called : {w after : List ℕ} {y : ℕ} {r : Found} → q ≡ Good y → CallUsed book cert j at used w after r → PartBy book cert j at used w after r
-  part-called e called = record {
-    told = λ ars B es θ s v vs count a u c x.
-        finds-then (k .told ars (c .right) (x .claim-at .right-at)) e (λ z. called .told ars B es θ s v vs count a u c x);
-    below = called .below;
-  }
-
 -- ---- the last call
 
-module _ {book cert : List ℕ} {j count at : ℕ} {used : Instance} {q : Found} (k : Pends cert (used .right) j count q) where
-  pub last-pending : {w : List ℕ} {n p : ℕ} → q ≡ Fault n p → LastPart book cert j count at used w w (Fault n p)
-  last-pending {w} e = record {
-    told = λ ars B es θ s v vs a u c x. finds-stop _ (k .told ars (c .right) (x .claim-at .right-at) vs (omega (arith, a .counted))) e;
-    below = below-self 1024 w;
-  }
+module _ {book cert w after : List ℕ} {right j count at : ℕ} {q : Behind} {used : Instance} {r : Found} (stays : BehindStop j count q) (part : PartBy book cert j q at used w after r) where
+  last-part : {ars : List ℕ} {B : Book Exp} {es : List (Claim Exp)} {θ : Fills Exp} {m : Mark Exp} {v : Pattern} {vs : List Pattern}
+      → Unfolding book cert w ars B es θ right m at (v ∷ vs) j count → {u : Use Exp Pair} {c : Claim Exp} → Uses book cert w ars u c used
+      → Finds (pending j vs (c .right) ++ compare 10 j (some (fill (by θ) v)) (some (instance one u (c .left)))) (behind at v) r
+  last-part {ars} {B} {es} {θ} {m} {v} {vs} U {u} {c} x =
+      subst (λ (ks : List (Check Exp)). Finds (ks ++ compare 10 j (some (fill (by θ) v)) (some (instance one u (c .left)))) (behind at v) r)
+      (stays .told vs (omega (arith, U .calls-at .counted)) (c .right)) (part .told ars B es θ (U .scene) v vs count (U .calls-at) u c x)
 
-  pub last-called : {w after : List ℕ} {y : ℕ} {r : Found} → q ≡ Good y → CallUsed book cert j at used w after r → LastPart book cert j count at used w after r
-  last-called e called = record {
-    told = λ ars B es θ s v vs a u c x.
-        finds-then (k .told ars (c .right) (x .claim-at .right-at) vs (omega (arith, a .counted))) e
-        (λ z. called .told ars B es θ s v vs count a u c x);
-    below = called .below;
-  }
-
-module _ {book cert w after : List ℕ} {right j count at : ℕ} {used : Instance} {r : Found} (called : LastPart book cert j count at used w after r) where
   pub ends-early : {n p : ℕ} → r ≡ Fault n p → EndsBy book cert right j count at used w after (Fault n p)
-  ends-early q = record {
-    told = λ ars B es θ m v vs U u c x. finds-stop _ (called .told ars B es θ (U .scene) v vs (U .calls-at) u c x) q;
-    below = below-less (omega arith) (called .below);
+  ends-early e = record {
+    told = λ ars B es θ m v vs U u c x. finds-stop _ (last-part U x) e;
+    below = below-less (omega arith) (part .below);
   }
 
   pub ends-by : {x : ℕ} {theirs : Subject} {end : List ℕ} {s : Found} → r ≡ Good x → UsedRight cert (used .right) (used .i) (used .j) theirs
       → StopsBy book cert right theirs (used .end) after end s → EndsBy book cert right j count at used w end s
-  ends-by {x} {theirs} {end} {s} q t stopped = record {
+  ends-by {x} {theirs} {end} {s} e t stopped = record {
     told = λ ars B es θ m v vs U u c y.
-        let known = known-below (below-less (omega arith) (called .below)) (U .scene .known) in
-        let o = t .told book after ars B es known u (index u c y) (uses-below (called .below) y .used) (c .right) (y .claim-at .right-at) in
-        finds-then (called .told ars B es θ (U .scene) v vs (U .calls-at) u c y) q
+        let known = known-below (below-less (omega arith) (part .below)) (U .scene .known) in
+        let o = t .told book after ars B es known u (index u c y) (uses-below (part .below) y .used) (c .right) (y .claim-at .right-at) in
+        finds-then (last-part U y) e
         (λ z. stopped .told ars B es m known (U .right-at) (instance-mark one u (c .right)) (o .0) (o .1));
-    below = below-then (below-less (omega arith) (called .below)) (stopped .below);
+    below = below-then (below-less (omega arith) (part .below)) (stopped .below);
   }
     where
       index : {ars : List ℕ} (u : Use Exp Pair) (c : Claim Exp) → Uses book cert w ars u c used → u .index ≡ (used .i, used .j)
@@ -265,12 +217,12 @@ parts-last {book} {cert} {w} {after} {right} {j} {count} {before} {call} {at} {r
     go ars B es θ m (v ∷ vs) U (u ∷ us) last n l f g lies = absurd (omega arith)
 
 -- one part, and what comes behind it
-module _ {book cert w v after : List ℕ} {j call at : ℕ} {used : Instance} {r : Found} (read : ReadsUse book cert at w v used) (part : PartBy book cert j call used v after r) where
+module _ {book cert w v after : List ℕ} {j call at : ℕ} {used : Instance} {r : Found} (read : ReadsUse book cert at w v used) (part : PartBy book cert j Judged call used v after r) where
   module _ {ars : List ℕ} {B : Book Exp} {es : List (Claim Exp)} {θ : Fills Exp} {right : ℕ} {m : Mark Exp} {t : Pattern} {ts : List Pattern} {count : ℕ} (U : Unfolding book cert w ars B es θ right m call (t ∷ ts) j count) where
     one-part : (us : List (Use Exp Pair)) (last : Option (Use Exp Pair)) {u : Use Exp Pair} (gs : Fields) → UseFits ars (length es) u → Lies cert at (use-fields u ++ gs) → {end : ℕ} {s : Found}
         → ((ks : List (Check Exp)) → Finds ks (behind call t) r → Finds (ks ++ parts one es θ (suc j) ts us last m) end s)
         → Finds (parts one es θ j (t ∷ ts) (u ∷ us) last m) end s
-    unfolding parts
+    unfolding parts lead
     one-part us last {u} gs fits lies {end} {s} rest =
         let n = named es (u .line) (fits .earlier) in
         let x = read .told ars B es (U .scene .known) (length es) u (n .claim) fits (lies-front cert at (use-fields u) gs lies) (n .found) in
@@ -375,29 +327,31 @@ module _ {book ars : List ℕ} {at : ℕ} {c : Read} {u : Rule Exp} (t : Takes b
 
 -- ---- the whole unfold
 
-module _ {book cert w v : List ℕ} {left : ℕ} (k : ℕ) {at : ℕ} {c : Read} {r : Found} (a : at ≡ getD w k 0) (t : Takes book 4 at c) (head : Checks book cert Unfold 0 (Call (c .at)) (Plain left 1 0) w v r) where
+module _ {book cert w v : List ℕ} {left right : ℕ} (k : ℕ) {at : ℕ} {c : Read} {r : Found} (a : at ≡ getD w k 0) (t : Takes book 4 at c) (head : Checks book cert Unfold 0 right Nothing (Call (c .at)) (Plain left 1 0) w v r) where
   rule-at : {ars : List ℕ} {B : Book Exp} {es : List (Claim Exp)} {θ : Fills Exp} → Scene book cert w ars B es θ → {u : Rule Exp} → getElem? B k ≡ some u
       → RuleAt book ars at u
   rule-at {ars} S {u} e = subst (λ j. RuleAt book ars j u) (sym a) (S .known .rule k u e)
 
   head-found : {ars : List ℕ} {B : Book Exp} {es : List (Claim Exp)} {θ : Fills Exp} → Scene book cert w ars B es θ → {t : Pattern} → LeftAt cert ars left t
+      → {m : Mark Exp} → RightAt cert ars right m
       → {u : Rule Exp} → getElem? B k ≡ some u → Finds (compare 9 0 (some (fill (by θ) (u .head))) (some t)) (behind (c .at) (u .head)) r
-  unfolding number-at
-  head-found S L e = head .told _ _ (call-means S (rule-at S e .fits .head) (head-lies t (rule-at S e))) _ _ (left-itself (S .known) L)
+  unfolding asked-at checks-of end-of
+  head-found {ars} S L R e =
+      head .told ars (S .known .arity) _ R _ _ (call-means S (rule-at S e .fits .head) (head-lies t (rule-at S e))) _ _ (left-itself (S .known) L)
 
-  pub unfolds-fault : {right i end n p : ℕ} → r ≡ Fault n p → UnfoldsBy book cert left right k i end w v (Fault n p)
+  pub unfolds-fault : {i end n p : ℕ} → r ≡ Fault n p → UnfoldsBy book cert left right k i end w v (Fault n p)
   unfolding line-checks
   unfolds-fault q = record {
-    told = λ ars B es θ S l L R u e s z fits lies. finds-given _ e (finds-stop _ (head-found S L e) q);
+    told = λ ars B es θ S l L R u e s z fits lies. finds-given _ e (finds-stop _ (head-found S L R e) q);
     below = below-less (omega arith) (head .below);
   }
 
-  pub unfolds-on : {right i end x : ℕ} {after : List ℕ} {s : Found} → r ≡ Good x → Stops book cert right i (c .value) x end v after s
+  pub unfolds-on : {i end x : ℕ} {after : List ℕ} {s : Found} → r ≡ Good x → Stops book cert right i (c .value) x end v after s
       → UnfoldsBy book cert left right k i end w after s
   unfolding line-checks
   unfolds-on q p = record {
     told = λ ars B es θ S l L R u e s z fits lies.
-        finds-given _ e (finds-then (head-found S L e) q
+        finds-given _ e (finds-then (head-found S L R e) q
         (λ y. p .told ars B es θ (l .right) (u .calls)
         (record { scene = scene-below (below-less (omega arith) (head .below)) S; right-at = R; calls-at = calls-at t (rule-at S e) y }) s z fits lies));
     below = below-then (below-less (omega arith) (head .below)) (p .below);

@@ -1,9 +1,8 @@
 -- What the checks of an unfold find, part by part.
 use Prim.Native.Nat.{ℕ, _+_, _≤_, _<_}
 use mathlib.Core.Path.{_≡_}
-use mathlib.Core.Bool.{Bool}
 use mathlib.Core.List.{List, [], _∷_, _++_, flatMap}
-use mathlib.Core.Option.{Option, none, some}
+use mathlib.Core.Option.{Option, some}
 use lib.ListN.{length, getElem?}
 use Rattle.bits.specs.Packed.{width}
 use Rattle.patterns.specs.Term.{fill}
@@ -12,12 +11,11 @@ use Rattle.patterns.specs.Every.{Every}
 use Rattle.patterns.specs.Derive.{Rule, Book}
 use Rattle.patterns.specs.Certificate.{Fills, by, Mark, Claim, Use, Stop, unfolds}
 use Rattle.patterns.specs.Checks.{instance, instance-mark}
-use Rattle.patterns.specs.Demand.{empty}
-use Rattle.patterns.specs.Judge.{Check, check, compare, pending, parts, stops, line-checks}
+use Rattle.patterns.specs.Judge.{Check, compare, pending, parts, stops, line-checks}
 use Rattle.grammar.specs.Listing.{if-any, term-fields, use-fields, stop-fields, stop-number, kind-fields}
 use Rattle.grammar.specs.Limits.{RootFits, UseFits, LastFits, StopFits, KindFits, call-counts}
-use Rattle.table.specs.Answer.{Says}
 use Rattle.checking.specs.declared.Found.{Found}
+use Rattle.checking.specs.declared.Behind.{Behind}
 use Rattle.checking.specs.declared.Instance.{Instance}
 use Rattle.instances.specs.Lying.{Lies, behind}
 use Rattle.checking.specs.Placed.{RightAt, LeftAt}
@@ -25,18 +23,11 @@ use Rattle.checking.specs.Known.{Below, Known, Scene, Uses}
 use Rattle.checking.specs.declared.Subject.{Subject}
 use Rattle.checking.specs.Subjects.{Means}
 use Rattle.checking.specs.Found.{Finds}
+use Rattle.checking.specs.Rights.{lead}
 
--- the answer is whether the right at a bit is the empty mark
-pub record EmptyRight (cert : List ℕ) (at : ℕ) (r : Bool) : Type 0 where
-  pub told : (ars : List ℕ) (m : Mark Exp) → RightAt cert ars at m → Says (m ≡ none) r
-
--- 01: "for j = i < m it must not be [empty]; else 11"
-pub record Pends (cert : List ℕ) (right j count : ℕ) (r : Found) : Type 0 where
-  pub told : (ars : List ℕ) (m : Mark Exp) → RightAt cert ars right m → (vs : List Pattern) → count ≡ j + length vs → Finds (pending j vs m) 0 r
-
--- 01: "For j < i the used line's right must be empty [..]; else 11"
-pub record Spends (cert : List ℕ) (right j : ℕ) (r : Found) : Type 0 where
-  pub told : (ars : List ℕ) (m : Mark Exp) → RightAt cert ars right m → Finds (check 11 j (empty m) ∷ []) 0 r
+-- 01: "for j = i < m it must not be [empty]; else 11": m is `count`, and the calls vs stand behind the j-th
+pub record BehindStop (j count : ℕ) (q : Behind) : Type 0 where
+  pub told : (vs : List Pattern) → count ≡ j + length vs → (m : Mark Exp) → lead q 11 j m ≡ pending j vs m
 
 -- the same found, with another end
 pub record EndsAt (found : Found) (at : ℕ) (r : Found) : Type 0 where
@@ -62,31 +53,15 @@ pub record StopsBy (book cert : List ℕ) (right : ℕ) (theirs : Subject) (at :
       → (k : Mark Exp) (e : ℕ) → Means book cert w theirs k e → Finds (compare 12 15 m k) at r
   pub below : Below 896 w after
 
--- part j: the call against the instance of a used left
-pub record CallUsed (book cert : List ℕ) (j call : ℕ) (used : Instance) (w after : List ℕ) (r : Found) : Type 0 where
+-- part j, over a use that was read
+pub record PartBy (book cert : List ℕ) (j : ℕ) (q : Behind) (call : ℕ) (used : Instance) (w after : List ℕ) (r : Found) : Type 0 where
   pub told : (ars : List ℕ) (B : Book Exp) (es : List (Claim Exp)) (θ : Fills Exp) → Scene book cert w ars B es θ
       → (v : Pattern) (vs : List Pattern) (count : ℕ) → CallsAt book ars call (v ∷ vs) j count
       → (u : Use Exp Pair) (c : Claim Exp) → Uses book cert w ars u c used
-      → Finds (compare 10 j (some (fill (by θ) v)) (some (instance one u (c .left)))) (behind call v) r
+      → Finds (lead q 11 j (c .right) ++ compare 10 j (some (fill (by θ) v)) (some (instance one u (c .left)))) (behind call v) r
   pub below : Below 1024 w after
 
--- a part j before the last, over a use that was read
-pub record PartBy (book cert : List ℕ) (j call : ℕ) (used : Instance) (w after : List ℕ) (r : Found) : Type 0 where
-  pub told : (ars : List ℕ) (B : Book Exp) (es : List (Claim Exp)) (θ : Fills Exp) → Scene book cert w ars B es θ
-      → (v : Pattern) (vs : List Pattern) (count : ℕ) → CallsAt book ars call (v ∷ vs) j count
-      → (u : Use Exp Pair) (c : Claim Exp) → Uses book cert w ars u c used
-      → Finds ((check 11 j (empty (c .right)) ∷ []) ++ compare 10 j (some (fill (by θ) v)) (some (instance one u (c .left)))) (behind call v) r
-  pub below : Below 1024 w after
-
--- the last part j, over a use that was read
-pub record LastPart (book cert : List ℕ) (j count call : ℕ) (used : Instance) (w after : List ℕ) (r : Found) : Type 0 where
-  pub told : (ars : List ℕ) (B : Book Exp) (es : List (Claim Exp)) (θ : Fills Exp) → Scene book cert w ars B es θ
-      → (v : Pattern) (vs : List Pattern) → CallsAt book ars call (v ∷ vs) j count
-      → (u : Use Exp Pair) (c : Claim Exp) → Uses book cert w ars u c used
-      → Finds (pending j vs (c .right) ++ compare 10 j (some (fill (by θ) v)) (some (instance one u (c .left)))) (behind call v) r
-  pub below : Below 1024 w after
-
--- and part 15
+-- the last part j, and part 15
 pub record EndsBy (book cert : List ℕ) (right j count call : ℕ) (used : Instance) (w after : List ℕ) (r : Found) : Type 0 where
   pub told : (ars : List ℕ) (B : Book Exp) (es : List (Claim Exp)) (θ : Fills Exp) (m : Mark Exp) (v : Pattern) (vs : List Pattern)
       → Unfolding book cert w ars B es θ right m call (v ∷ vs) j count → (u : Use Exp Pair) (c : Claim Exp) → Uses book cert w ars u c used

@@ -1,40 +1,21 @@
 // The checks of an unfold.
+use checking::Behind;
 use checking::Found;
 use checking::Instance;
 use checking::Kind;
 use checking::Subject;
 ghost use Prim.Native.Nat.{_+_, _≤_, _<_};
 ghost use lib.ListN.{length};
-ghost use Rattle.unfolds.specs.Unfoldings.{EmptyRight, Pends, Spends, EndsAt, StopsBy, CallUsed, PartBy, LastPart, EndsBy, EndsUsed, Ends, Parts, Stops, UnfoldsBy, UnfoldAt};
+ghost use Rattle.unfolds.specs.Unfoldings.{BehindStop, EndsAt, StopsBy, PartBy, EndsBy, EndsUsed, Ends, Parts, Stops, UnfoldsBy, UnfoldAt};
 
-// Whether what stands right of the arrow is the empty mark.
-fn is_empty(certificate: &[u8], right: usize) -> bool
-    ensures { λ r. ⌜ EmptyRight (now (certificate .entry)) right r ⌝ }
-{
-    let any = checking::field(certificate, 1, right);
-    any.value == 0
-}
-
-// 11 at part j: calls are pending behind it, and the right that leads there is the empty mark.
-fn pending(certificate: &[u8], right: usize, j: usize, count: usize) -> Found
-    ensures { λ r. ⌜ Pends (now (certificate .entry)) right j count r ⌝ }
+// What stands behind the call where an unfold stops, the j-th of `count`.
+fn behind_stop(j: usize, count: usize) -> Behind
+    ensures { λ r. ⌜ BehindStop j count r ⌝ }
 {
     if j < count {
-        if is_empty(certificate, right) {
-            return Found::Fault(11, j);
-        }
+        return Behind::Pending;
     }
-    Found::Good(0)
-}
-
-// 11 at part j: the right there is not the empty mark.
-fn spent(certificate: &[u8], right: usize, j: usize) -> Found
-    ensures { λ r. ⌜ Spends (now (certificate .entry)) right j r ⌝ }
-{
-    if is_empty(certificate, right) {
-        return Found::Good(0);
-    }
-    Found::Fault(11, j)
+    Behind::Nothing
 }
 
 // What the last checks of a line come to, if the line ends at a bit.
@@ -60,21 +41,32 @@ fn stop_by(
     ensures { λ r. ⌜ StopsBy (now (book .entry)) (now (certificate .entry)) right theirs at (now (w .entry)) (now (w .exit)) r ⌝ }
 {
     let own = checking::plain_right(certificate, right, 1, 0);
-    let found = checking::check(book, certificate, w, Kind::Unfold, 15, own, theirs);
+    let found = checking::check(
+        book,
+        certificate,
+        w,
+        Kind::Unfold,
+        15,
+        right,
+        Behind::Nothing,
+        own,
+        theirs,
+    );
     ending(found, at)
 }
 
-// A call against the instance of a used left, at part j.
-fn call_used(
+// The part j of an unfold, by a use that was read: its right, and the call against the instance of its left.
+fn part_by(
     book: &[u8],
     certificate: &[u8],
     w: &mut [u64],
     j: usize,
+    behind: Behind,
     call: usize,
     used: Instance,
 ) -> Found
     requires { ⌜ 8192 ≤ length (now w) ⌝ }
-    ensures { λ r. ⌜ CallUsed (now (book .entry)) (now (certificate .entry)) j call used (now (w .entry)) (now (w .exit)) r ⌝ }
+    ensures { λ r. ⌜ PartBy (now (book .entry)) (now (certificate .entry)) j behind call used (now (w .entry)) (now (w .exit)) r ⌝ }
 {
     let theirs = Subject::Used(used.left, used.i, used.j);
     checking::check(
@@ -83,28 +75,11 @@ fn call_used(
         w,
         Kind::Unfold,
         j,
+        used.right,
+        behind,
         Subject::Call(call),
         theirs,
     )
-}
-
-// The last part j of an unfold, by a use that was read.
-fn last_part(
-    book: &[u8],
-    certificate: &[u8],
-    w: &mut [u64],
-    j: usize,
-    count: usize,
-    call: usize,
-    used: Instance,
-) -> Found
-    requires { ⌜ 8192 ≤ length (now w) ⌝ }
-    ensures { λ r. ⌜ LastPart (now (book .entry)) (now (certificate .entry)) j count call used (now (w .entry)) (now (w .exit)) r ⌝ }
-{
-    match pending(certificate, used.right, j, count) {
-        Found::Fault(n, p) => Found::Fault(n, p),
-        Found::Good(_) => call_used(book, certificate, w, j, call, used),
-    }
 }
 
 // The last part j, and part 15.
@@ -123,7 +98,8 @@ fn last_by(
 {
     let theirs = checking::used_right(certificate, used.right, used.i, used.j);
     let end = used.end;
-    match last_part(book, certificate, w, j, count, call, used) {
+    let behind = behind_stop(j, count);
+    match part_by(book, certificate, w, j, behind, call, used) {
         Found::Fault(n, p) => Found::Fault(n, p),
         Found::Good(_) => stop_by(book, certificate, w, right, theirs, end),
     }
@@ -169,24 +145,6 @@ fn last(
     last_used(book, certificate, w, right, j, count, call, use_at)
 }
 
-// A part j before the last, by a use that was read.
-fn part_by(
-    book: &[u8],
-    certificate: &[u8],
-    w: &mut [u64],
-    j: usize,
-    call: usize,
-    used: Instance,
-) -> Found
-    requires { ⌜ 8192 ≤ length (now w) ⌝ }
-    ensures { λ r. ⌜ PartBy (now (book .entry)) (now (certificate .entry)) j call used (now (w .entry)) (now (w .exit)) r ⌝ }
-{
-    match spent(certificate, used.right, j) {
-        Found::Fault(n, p) => Found::Fault(n, p),
-        Found::Good(_) => call_used(book, certificate, w, j, call, used),
-    }
-}
-
 // The parts of an unfold from j on; `before` calls stand before the one where it stops.
 fn parts(
     book: &[u8],
@@ -207,7 +165,7 @@ fn parts(
     }
     let used = checking::read_use(book, certificate, w, at);
     let end = used.end;
-    match part_by(book, certificate, w, j, call, used) {
+    match part_by(book, certificate, w, j, Behind::Judged, call, used) {
         Found::Fault(n, p) => Found::Fault(n, p),
         Found::Good(next) => parts(
             book,
@@ -266,6 +224,8 @@ fn unfold_by(
         w,
         Kind::Unfold,
         0,
+        right,
+        Behind::Nothing,
         head,
         Subject::Plain(left, 1, 0),
     ) {

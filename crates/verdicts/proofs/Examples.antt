@@ -5,9 +5,10 @@ use Prim.Native.Nat.{ℕ}
 use lib.ListN.{replicate}
 use Rattle.patterns.specs.Refusal.{closing-place}
 use Rattle.patterns.specs.Judge.{accept, refuse}
+use Rattle.layout.specs.Carried.{of-a-field, of-a-part, carried}
 use Rattle.verdicts.specs.Program.{judging-framed, judging-input, book-length}
 use Rattle.verdicts.specs.Decimal.{decimal-within, decimal}
-use Rattle.verdicts.specs.Lines.{accept-word, refuse-word, spaced, sentence, line-of}
+use Rattle.verdicts.specs.Lines.{accept-word, refuse-word, spaced, sentence, refusal-line, line-of}
 
 -- ---- 1, then 2, then 3, each with W = 4 and A and B 0
 
@@ -45,7 +46,7 @@ accept-case = refl
 -- `refuse 15 3 20 1`: the number, W, A and B
 pub refuse-case : line-of (refuse (record { number = 15; w = closing-place; a = 20; b = 1 }))
     ≡ 114 ∷ 101 ∷ 102 ∷ 117 ∷ 115 ∷ 101 ∷ 32 ∷ 49 ∷ 53 ∷ 32 ∷ 51 ∷ 32 ∷ 50 ∷ 48 ∷ 32 ∷ 49 ∷ 10 ∷ []
-unfolding line-of sentence refuse-word spaced decimal decimal-within
+unfolding line-of refusal-line carried of-a-field of-a-part sentence refuse-word spaced decimal decimal-within
 refuse-case = refl
 
 -- the largest `usize`, 20 digits

@@ -1,6 +1,6 @@
 -- Laws of 01's table of refusals: rows that are listed, that a refusal carries only what its number says, and the refusals 1 to 8.
 use Prim.Native.Nat.{ℕ, zero, suc, _≤_}
-use mathlib.Core.Path.{_≡_, refl, sym, subst}
+use mathlib.Core.Path.{_≡_, refl, sym, _∙_, subst}
 use mathlib.Core.Logic.{inl, inr}
 use mathlib.Core.List.{List, [], _∷_, _++_}
 use mathlib.Core.Option.{some, Option·some-injective, Option·none-ne-some}
@@ -12,6 +12,8 @@ use lib.ListN.{getElem?}
 use Rattle.patterns.specs.Every.{Every}
 use Rattle.patterns.specs.Refusal.{Refusal, neither-place}
 use Rattle.layout.specs.Files.{refusal-at}
+use Rattle.layout.specs.Carried.{Carries}
+use Rattle.layout.proofs.Carrying.{carried-field, carried-part, carried-nothing}
 use Rattle.verdicts.specs.InTable.{Column, only, from-to, Allows, Row, row, InRow, Among, refusal-rows, InTable}
 
 -- ---- rows
@@ -43,31 +45,32 @@ among-shows P (q ∷ rows) f r (inr h) = among-shows P rows (f .1) r h
 
 -- ---- what a refusal carries
 
--- 1 to 8 carry no part, and 1, 2 and 8 no place
-abbrev Carries : Refusal → Type 0
-Carries r = (r .number ≤ 8 → r .b ≡ 0) × (r .number ≤ 2 → r .a ≡ 0) × (r .number ≡ 8 → r .a ≡ 0)
-
 bare : {n w : Column} (r : Refusal) → InRow (row n w (only 0) (only 0)) r → Carries r
-unfolding Allows
-bare r h = (λ m. h .b, λ m. h .a, λ e. h .a)
+unfolding Allows Carries
+bare r h = rw (h .a, h .b) (carried-nothing (r .number) (r .w))
 
 placed : {w a : Column} (r : Refusal) → InRow (row (from-to 3 7) w a (only 0)) r → Carries r
-unfolding Allows
-placed r h = (λ m. h .b, λ m. omega (arith, h .number), λ e. omega (arith, h .number))
+unfolding Allows Carries
+placed r h =
+    carried-field (r .w) (r .a) (r .b) (h .number .0) (omega (arith, h .number .1))
+    ∙ λ i. record { number = r .number; w = r .w; a = r .a; b = sym (h .b) i }
 
--- 9 and beyond
-late : {n : ℕ} {w a b : Column} → ltb 8 n ≡ true → (r : Refusal) → InRow (row (only n) w a b) r → Carries r
-unfolding Allows
-late {n} e r h =
+-- 9 to 16
+parted : {n : ℕ} {w a b : Column} → ltb 8 n ≡ true → ltb n 17 ≡ true → (r : Refusal) → InRow (row (only n) w a b) r → Carries r
+unfolding Allows Carries
+parted {n} e f r h =
     let l = ltb-true 8 n e in
-    (λ m. omega (arith, h .number), λ m. omega (arith, h .number), λ e. omega (arith, h .number))
+    let m = ltb-true n 17 f in
+    let q = h .number in
+    carried-part (r .w) (r .a) (r .b) (omega arith) (omega arith)
 
+-- A refusal that is in the table carries what its number says, and nothing else.
 pub in-table-carries : (r : Refusal) → InTable r → Carries r
 unfolding InTable Every
 in-table-carries =
     among-shows Carries refusal-rows (
       bare,
-      (bare, (placed, (bare, (bare, (late refl, (late refl, (late refl, (late refl, (late refl, (late refl, (late refl, (late refl, (late refl, (late refl, (late refl, (late refl, (late refl, (late refl, (late refl, tt))))))))))))))))))),
+      (bare, (placed, (bare, (bare, (parted refl refl, (parted refl refl, (parted refl refl, (parted refl refl, (parted refl refl, (parted refl refl, (parted refl refl, (parted refl refl, (parted refl refl, (parted refl refl, (parted refl refl, (parted refl refl, (parted refl refl, (parted refl refl, (parted refl refl, tt))))))))))))))))))),
     )
 
 -- ---- the refusals 1 to 8

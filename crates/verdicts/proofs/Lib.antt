@@ -15,6 +15,7 @@ pub mod WorkTables
 pub mod JudgedTable
 pub mod OneVerdict
 pub mod OneLine
+pub mod Carried
 pub mod Compute
 pub mod Examples
 pub mod Table

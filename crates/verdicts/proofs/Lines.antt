@@ -8,7 +8,7 @@ use lib.Seq.{take-suc, take-length}
 use borrow.Author.Tests.{lt-ltb, le-ltb}
 use Rattle.layout.specs.Answers.{gives, output}
 use Rattle.verdicts.specs.Decimal.{decimal}
-use Rattle.verdicts.specs.Lines.{spaced, sentence, put, written-length}
+use Rattle.verdicts.specs.Lines.{spaced, sentence, put, written-length, Prints}
 use Rattle.verdicts.proofs.Puts.{put-length, put-front, put-one, put-put, put-more}
 
 abbrev spaced-one : ℕ → List ℕ
@@ -102,29 +102,26 @@ module _ (word ns out : List ℕ) where
   all-put h = line-put h ∙ rw (le-ltb _ _ h) (put-front out (sentence word ns))
 
   pub sentence-none : {n : ℕ} → (n ≡ length (spaced ns)) × (n ≤ 84) → length word ≤ 6 → length out < length word + n + 1
-      → (0 ≡ written-length (sentence word ns) (length out))
-      × ((out ≡ output (gives (sentence word ns)) out) × (length (sentence word ns) ≤ 91))
+      → Prints (sentence word ns) out 0 out
   sentence-none {n} e few h =
       let size = sentence-length word ns in
       let long : length out < length (sentence word ns) = omega arith in
-      (none-answered long, (none-put long, omega arith))
+      record { answered = none-answered long; filled = none-put long; short = omega arith }
 
   pub sentence-all : {n k : ℕ} {out₁ out₂ : List ℕ} → (n ≡ length (spaced ns)) × (n ≤ 84) → length word ≤ 6
       → length word + n + 1 ≤ length out
       → out₁ ≡ put out 0 word → k ≡ length word + length (spaced ns) → out₂ ≡ put out₁ (length word) (spaced ns)
-      → (length word + n + 1 ≡ written-length (sentence word ns) (length out))
-      × ((set out₂ k 10 ≡ output (gives (sentence word ns)) out) × (length (sentence word ns) ≤ 91))
+      → Prints (sentence word ns) out (length word + n + 1) (set out₂ k 10)
   sentence-all {n} {k} {out₁} {out₂} e few h first end second =
       let size = sentence-length word ns in
-      let short : length (sentence word ns) ≤ length out = omega arith in (
-        ap (λ (i : ℕ). length word + i + 1) (e .0) ∙ all-answered short,
-        (
-          ap (λ (t : List ℕ). set t k 10) (second ∙ ap (λ (t : List ℕ). put t (length word) (spaced ns)) first)
-              ∙ ap (λ (i : ℕ). set (put (put out 0 word) (length word) (spaced ns)) i 10) end
-              ∙ all-put short,
-          omega arith,
-        ),
-      )
+      let fits : length (sentence word ns) ≤ length out = omega arith in
+      record {
+        answered = ap (λ (i : ℕ). length word + i + 1) (e .0) ∙ all-answered fits;
+        filled = ap (λ (t : List ℕ). set t k 10) (second ∙ ap (λ (t : List ℕ). put t (length word) (spaced ns)) first)
+            ∙ ap (λ (i : ℕ). set (put (put out 0 word) (length word) (spaced ns)) i 10) end
+            ∙ all-put fits;
+        short = omega arith;
+      }
 
   pub sentence-size : {n : ℕ} (k d : ℕ) {out₁ out₂ : List ℕ} → n ≡ length (spaced ns) → length word + n + 1 ≤ length out
       → out₁ ≡ put out 0 word → out₂ ≡ put out₁ (length word) (spaced ns) → length (set out₂ k d) ≡ length out

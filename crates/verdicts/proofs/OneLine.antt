@@ -1,4 +1,4 @@
--- No two verdicts have one line: the line tells the verdict.
+-- The line of a refusal, and no two verdicts with one line: the line tells the verdict.
 use Prim.Native.Nat.{ℕ, _<_}
 use mathlib.Core.Path.{_≡_, refl, ap, sym, _∙_}
 use mathlib.Core.List.{List, [], _∷_, _++_, append-assoc}
@@ -7,10 +7,11 @@ use Rattle.patterns.specs.Every.{Every}
 use Rattle.patterns.specs.First.{Pace}
 use Rattle.patterns.specs.Refusal.{Refusal}
 use Rattle.patterns.specs.Judge.{Verdict, accept, refuse}
+use Rattle.layout.specs.Carried.{Carries}
 use Rattle.verdicts.specs.declared.Verdict.{Verdict as Ruling}
 use Rattle.verdicts.specs.Decimal.{decimal}
 use Rattle.verdicts.specs.Verdicts.{paper}
-use Rattle.verdicts.specs.Lines.{accept-word, refuse-word, spaced, sentence, line-of}
+use Rattle.verdicts.specs.Lines.{accept-word, refuse-word, spaced, sentence, refusal-line, line-of, TellsAll}
 use Rattle.verdicts.proofs.Decimal.{IsDigit, decimal-digits, decimal-tells}
 use Rattle.verdicts.proofs.OneVerdict.{paper-tells}
 
@@ -62,22 +63,31 @@ pace-tells p q e f = λ i. record { k = e i; α = f i }
 refusal-tells : (r t : Refusal) → r .number ≡ t .number → r .w ≡ t .w → r .a ≡ t .a → r .b ≡ t .b → r ≡ t
 refusal-tells r t e f g h = λ i. record { number = e i; w = f i; a = g i; b = h i }
 
--- Two verdicts with the same line are the same verdict.
-pub line-tells : (v w : Verdict Pace) → line-of v ≡ line-of w → v ≡ w
-unfolding line-of sentence accept-word refuse-word
-line-tells (accept l p) (accept m q) e =
+-- The line of a refusal that carries what its number says, and nothing else: `refuse`, its number, its W, its A and its B.
+pub own-line : (r : Refusal) → Carries r → line-of (refuse r) ≡ refusal-line r
+unfolding line-of Carries
+own-line r h = ap refusal-line h
+
+refusals-tell : (r t : Refusal) → refusal-line r ≡ refusal-line t → r ≡ t
+unfolding refusal-line sentence refuse-word
+refusals-tell r t e =
+    let ns =
+    spaced-tell (r .number ∷ r .w ∷ r .a ∷ r .b ∷ []) (t .number ∷ t .w ∷ t .a ∷ t .b ∷ []) (cc)
+    in
+    refusal-tells r t (cc) (cc) (cc) (cc)
+
+-- Two verdicts with the same line are the same verdict, where the line leaves nothing out.
+pub line-tells : (v w : Verdict Pace) → TellsAll v → TellsAll w → line-of v ≡ line-of w → v ≡ w
+unfolding line-of TellsAll Carries refusal-line sentence accept-word refuse-word
+line-tells (accept l p) (accept m q) h k e =
     let ns = spaced-tell (l ∷ p .k ∷ p .α ∷ []) (m ∷ q .k ∷ q .α ∷ []) (cc) in
     let a : l ≡ m = cc in
     let b : p ≡ q = pace-tells p q (cc) (cc) in
     cc
-line-tells (accept l p) (refuse t) e = let z : _≡_ {A = ℕ} 97 114 = cc in absurd (omega arith)
-line-tells (refuse r) (accept m q) e = let z : _≡_ {A = ℕ} 114 97 = cc in absurd (omega arith)
-line-tells (refuse r) (refuse t) e =
-    let ns =
-    spaced-tell (r .number ∷ r .w ∷ r .a ∷ r .b ∷ []) (t .number ∷ t .w ∷ t .a ∷ t .b ∷ []) (cc)
-    in
-    ap refuse (refusal-tells r t (cc) (cc) (cc) (cc))
+line-tells (accept l p) (refuse t) h k e = let z : _≡_ {A = ℕ} 97 114 = cc in absurd (omega arith)
+line-tells (refuse r) (accept m q) h k e = let z : _≡_ {A = ℕ} 114 97 = cc in absurd (omega arith)
+line-tells (refuse r) (refuse t) h k e = ap refuse (sym h ∙ refusals-tell _ _ e ∙ k)
 
 -- So what the program prints tells the code's verdict.
-pub printed-tells : (p q : Ruling) → line-of (paper p) ≡ line-of (paper q) → p ≡ q
-printed-tells p q e = paper-tells p q (line-tells (paper p) (paper q) e)
+pub printed-tells : (p q : Ruling) → TellsAll (paper p) → TellsAll (paper q) → line-of (paper p) ≡ line-of (paper q) → p ≡ q
+printed-tells p q h k e = paper-tells p q (line-tells (paper p) (paper q) h k e)

@@ -1,52 +1,74 @@
 -- The line of each kind of verdict, and what a caller gets who lends room for it.
-use Prim.Native.Nat.{ℕ, _≤_}
+use Prim.Native.Nat.{ℕ, _≤_, _<_}
 use mathlib.Core.Path.{_≡_, ap, sym, _∙_, subst}
 use mathlib.Core.List.{List, [], _∷_, _++_}
 use native.Mathlib.Omega.{arith}
 use borrow.Author.Tests.{le-ltb}
 use lib.ListN.{length, take, drop}
 use lib.Seq.{take-append-seam}
-use Rattle.layout.specs.Answers.{w-of, paper-refusal, gives, output}
+use Rattle.patterns.specs.Refusal.{Refusal}
+use Rattle.patterns.specs.Judge.{refuse}
+use Rattle.layout.specs.Carried.{carried}
+use Rattle.layout.specs.Answers.{w-of, paper-refusal, output}
 use Rattle.layout.specs.declared.Refusal.{Refusal as Fault}
+use Rattle.layout.proofs.Carrying.{carried-field, carried-part, carried-low, carried-between, carried-high}
 use Rattle.verdicts.specs.declared.Acceptance.{Acceptance}
 use Rattle.verdicts.specs.declared.Verdict.{Verdict as Ruling}
 use Rattle.verdicts.specs.declared.Verdict.the-variants.{Accepted, Refused}
 use Rattle.verdicts.specs.Verdicts.{paper-pace, paper}
-use Rattle.verdicts.specs.Lines.{accept-word, refuse-word, sentence, line-of, written-length}
+use Rattle.verdicts.specs.Lines.{accept-word, refuse-word, sentence, refusal-line, line-of, written-length, Prints}
 
-accepted-line : {v : Ruling} (a : Acceptance) → v ≡ Accepted a
-    → sentence accept-word (a .line ∷ a .k ∷ a .alpha ∷ []) ≡ line-of (paper v)
+-- ---- an acceptance
+
+pub accepted-printed : (out : List ℕ) {out′ : List ℕ} {r : ℕ} {v : Ruling} (a : Acceptance) → v ≡ Accepted a
+    → Prints (sentence accept-word (a .line ∷ a .k ∷ a .alpha ∷ [])) out r out′ → Prints (line-of (paper v)) out r out′
 unfolding paper paper-pace line-of
-accepted-line a e = sym (ap (λ (v : Ruling). line-of (paper v)) e)
+accepted-printed out {out′} {r} a e p = subst (λ (v : Ruling). Prints (line-of (paper v)) out r out′) (sym e) p
 
-refused-line : {v : Ruling} (f : Fault) {w : ℕ} → v ≡ Refused f → w ≡ w-of (f .place)
-    → sentence refuse-word (f .number ∷ w ∷ f .a ∷ f .b ∷ []) ≡ line-of (paper v)
-unfolding paper paper-refusal line-of
-refused-line f {w} e h =
-    ap (λ (n : ℕ). sentence refuse-word (f .number ∷ n ∷ f .a ∷ f .b ∷ [])) h
-    ∙ sym (ap (λ (v : Ruling). line-of (paper v)) e)
+-- ---- a refusal, by its number
 
--- the promises of a function that writes a line
-abbrev pub Writes : List ℕ → List ℕ → ℕ → List ℕ → Type 0
-Writes l out r out′ = (r ≡ written-length l (length out)) × ((out′ ≡ output (gives l) out) × (length l ≤ 91))
+module _ (out : List ℕ) {out′ : List ℕ} {r : ℕ} (f : Fault) {w : ℕ} (place : w ≡ w-of (f .place)) where
+  -- the numbers of a refusal that is carried
+  carried-printed : (a b : ℕ) → carried (f .number) (w-of (f .place)) (f .a) (f .b) ≡ record { number = f .number; w = w-of (f .place); a = a; b = b }
+      → Prints (sentence refuse-word (f .number ∷ w ∷ a ∷ b ∷ [])) out r out′ → Prints (line-of (refuse (paper-refusal f))) out r out′
+  unfolding line-of refusal-line paper-refusal
+  carried-printed a b e p =
+      subst (λ (t : Refusal). Prints (refusal-line t) out r out′) (sym e)
+      (subst (λ (n : ℕ). Prints (sentence refuse-word (f .number ∷ n ∷ a ∷ b ∷ [])) out r out′) place p)
 
-module _ (out : List ℕ) {out′ : List ℕ} {r : ℕ} where
-  pub accepted-printed : {v : Ruling} (a : Acceptance) → v ≡ Accepted a
-      → Writes (sentence accept-word (a .line ∷ a .k ∷ a .alpha ∷ [])) out r out′ → Writes (line-of (paper v)) out r out′
-  accepted-printed a e p = subst (λ (l : List ℕ). Writes l out r out′) (accepted-line a e) p
+  pub field-printed : 3 ≤ f .number → f .number < 8 → Prints (sentence refuse-word (f .number ∷ w ∷ f .a ∷ 0 ∷ [])) out r out′
+      → Prints (line-of (refuse (paper-refusal f))) out r out′
+  field-printed p q = carried-printed (f .a) 0 (carried-field _ _ _ p q)
 
-  pub refused-printed : {v : Ruling} (f : Fault) {w : ℕ} → v ≡ Refused f → w ≡ w-of (f .place)
-      → Writes (sentence refuse-word (f .number ∷ w ∷ f .a ∷ f .b ∷ [])) out r out′ → Writes (line-of (paper v)) out r out′
-  refused-printed f e h p = subst (λ (l : List ℕ). Writes l out r out′) (refused-line f e h) p
+  pub part-printed : 9 ≤ f .number → f .number < 17 → Prints (sentence refuse-word (f .number ∷ w ∷ f .a ∷ f .b ∷ [])) out r out′
+      → Prints (line-of (refuse (paper-refusal f))) out r out′
+  part-printed p q = carried-printed (f .a) (f .b) (carried-part _ _ _ p q)
+
+  pub low-printed : f .number < 3 → Prints (sentence refuse-word (f .number ∷ w ∷ 0 ∷ 0 ∷ [])) out r out′
+      → Prints (line-of (refuse (paper-refusal f))) out r out′
+  low-printed p = carried-printed 0 0 (carried-low _ _ _ p)
+
+  pub between-printed : 8 ≤ f .number → f .number < 9 → Prints (sentence refuse-word (f .number ∷ w ∷ 0 ∷ 0 ∷ [])) out r out′
+      → Prints (line-of (refuse (paper-refusal f))) out r out′
+  between-printed p q = carried-printed 0 0 (carried-between _ _ _ p q)
+
+  pub high-printed : 17 ≤ f .number → Prints (sentence refuse-word (f .number ∷ w ∷ 0 ∷ 0 ∷ [])) out r out′
+      → Prints (line-of (refuse (paper-refusal f))) out r out′
+  high-printed p = carried-printed 0 0 (carried-high _ _ _ p)
+
+pub refused-printed : (out : List ℕ) {out′ : List ℕ} {r : ℕ} {v : Ruling} (f : Fault) → v ≡ Refused f
+    → Prints (line-of (refuse (paper-refusal f))) out r out′ → Prints (line-of (paper v)) out r out′
+unfolding paper
+refused-printed out {out′} {r} f e p = subst (λ (v : Ruling). Prints (line-of (paper v)) out r out′) (sym e) p
 
 -- ---- what a caller with 91 bytes gets
 
 -- The line stands in the first bytes, as many as were answered.
-pub line-first : (l out : List ℕ) {r : ℕ} {out′ : List ℕ} → 91 ≤ length out → Writes l out r out′
+pub line-first : (l out : List ℕ) {r : ℕ} {out′ : List ℕ} → 91 ≤ length out → Prints l out r out′
     → (r ≡ length l) × (take r out′ ≡ l)
 unfolding written-length output
 line-first l out {r} {out′} h p =
-    let room = le-ltb (length out) (length l) (omega arith) in
-    let whole : r ≡ length l = p .0 ∙ rw room in
-    let after : out′ ≡ l ++ drop (length l) out = p .1 .0 ∙ rw room in
+    let room = le-ltb (length out) (length l) (omega (arith, p .short)) in
+    let whole : r ≡ length l = p .answered ∙ rw room in
+    let after : out′ ≡ l ++ drop (length l) out = p .filled ∙ rw room in
     (whole, ap (λ (n : ℕ). take n out′) whole ∙ ap (take (length l)) after ∙ take-append-seam l (drop (length l) out))

@@ -4,9 +4,10 @@ use layout::Refusal;
 ghost use mathlib.Core.Path.{_≡_};
 ghost use Prim.Native.Nat.{_+_, _≤_};
 ghost use lib.ListN.{length};
-ghost use Rattle.layout.specs.Answers.{w-of, gives, output};
+ghost use Rattle.patterns.specs.Judge.{refuse};
+ghost use Rattle.layout.specs.Answers.{w-of, paper-refusal};
 ghost use Rattle.verdicts.specs.Decimal.{decimal};
-ghost use Rattle.verdicts.specs.Lines.{spaced, sentence, line-of, put, written-length};
+ghost use Rattle.verdicts.specs.Lines.{spaced, sentence, line-of, put, Prints};
 ghost use Rattle.verdicts.specs.Verdicts.{paper};
 
 // A certificate that was accepted: the line that its closing names, the step k and the start α.
@@ -106,9 +107,7 @@ fn put_word(out: &mut [u8], word: &[u8])
 // A word and numbers as one line, where it fits.
 fn put_sentence(word: &[u8], numbers: &[usize], out: &mut [u8]) -> usize
     requires { ⌜ (length (now word) ≤ 6) × (length (now numbers) ≤ 4) ⌝ }
-    ensures answered { λ r. ⌜ r ≡ written-length (sentence (now (word .entry)) (now (numbers .entry))) (length (now (out .entry))) ⌝ }
-    ensures filled { λ _. ⌜ now (out .exit) ≡ output (gives (sentence (now (word .entry)) (now (numbers .entry)))) (now (out .entry)) ⌝ }
-    ensures short { λ _. ⌜ length (sentence (now (word .entry)) (now (numbers .entry))) ≤ 91 ⌝ }
+    ensures { λ r. ⌜ Prints (sentence (now (word .entry)) (now (numbers .entry))) (now (out .entry)) r (now (out .exit)) ⌝ }
 {
     let n = word.len() + spaced_length(numbers) + 1;
     if n > out.len() {
@@ -133,21 +132,38 @@ pub fn place_number(place: Place) -> usize
     }
 }
 
+// The line of a refusal: its number chooses which of A and B are told.
+fn refusal_line(refusal: Refusal, out: &mut [u8]) -> usize
+    ensures { λ r. ⌜ Prints (line-of (refuse (paper-refusal refusal))) (now (out .entry)) r (now (out .exit)) ⌝ }
+{
+    let number = refusal.number as usize;
+    let place = refusal.place;
+    let w = place_number(place);
+    match number {
+        3..=7 => {
+            let numbers = [number, w, refusal.a, 0];
+            put_sentence(b"refuse", &numbers, out)
+        }
+        9..=16 => {
+            let numbers = [number, w, refusal.a, refusal.b];
+            put_sentence(b"refuse", &numbers, out)
+        }
+        _ => {
+            let numbers = [number, w, 0, 0];
+            put_sentence(b"refuse", &numbers, out)
+        }
+    }
+}
+
 // The line of a verdict in the first places of `out`, and its length; where it does not fit, 0 and nothing is written.
 pub fn verdict_line(v: Verdict, out: &mut [u8]) -> usize
-    ensures answered { λ r. ⌜ r ≡ written-length (line-of (paper v)) (length (now (out .entry))) ⌝ }
-    ensures filled { λ _. ⌜ now (out .exit) ≡ output (gives (line-of (paper v))) (now (out .entry)) ⌝ }
-    ensures short { λ _. ⌜ length (line-of (paper v)) ≤ 91 ⌝ }
+    ensures { λ r. ⌜ Prints (line-of (paper v)) (now (out .entry)) r (now (out .exit)) ⌝ }
 {
     match v {
         Verdict::Accepted(a) => {
             let numbers = [a.line, a.k, a.alpha];
             put_sentence(b"accept", &numbers, out)
         }
-        Verdict::Refused(r) => {
-            let place = r.place;
-            let numbers = [r.number as usize, place_number(place), r.a, r.b];
-            put_sentence(b"refuse", &numbers, out)
-        }
+        Verdict::Refused(refusal) => refusal_line(refusal, out),
     }
 }

@@ -1,54 +1,70 @@
 -- `checking::check` meets its contract.
-use Rattle.checking.proofs.Finding.{checks-too-big, checks-unequal, checks-equal}
+use Rattle.checking.proofs.Asking.{made-same, made-led, made-level, made-present}
 use borrow.Author.Needs.{needs}
 use Rattle.checking.proofs.check.Statement.{statement}
 use Rattle.checking.proofs.check.Tie as tie
 
-compare-requires : tie.Need-compare-requires
-compare-requires c κs = search needs
+asked-at-requires : tie.Need-asked-at-requires
+asked-at-requires c κs = search needs
 
-enum-told : tie.Need-enum-told
-enum-told c = search needs
+enum-known-n : tie.Need-enum-known-n
+enum-known-n c = search needs
 
-enum-told-2 : tie.Need-enum-told-2
-enum-told-2 c = search needs
+equal-requires : tie.Need-equal-requires
+equal-requires c κs = search needs
 
-number-requires : tie.Need-number-requires
-number-requires c κs = search needs
+enum-known-l : tie.Need-enum-known-l
+enum-known-l c = search needs
 
-enum-known-end : tie.Need-enum-known-end
-enum-known-end c = search needs
+led-equal-requires : tie.Need-led-equal-requires
+led-equal-requires c κs = search needs
+
+enum-known-n-2 : tie.Need-enum-known-n-2
+enum-known-n-2 c = search needs
+
+level-requires : tie.Need-level-requires
+level-requires c κs = search needs
+
+enum-known-n-3 : tie.Need-enum-known-n-3
+enum-known-n-3 c = search needs
+
+present-requires : tie.Need-present-requires
+present-requires c κs = search needs
 
 same-length : tie.Need-same-length
 same-length c = search needs
 
 returns : tie.Need-returns
-returns c = checks-too-big _ _ (c .before .before .before .before .compare .ensures) (c .enum-told .given .1)
+returns c = made-same (c .before .before .before .before .before .before .before .asked-at .ensures) (c .before .before .before .before .before .n .given .1) (c .before .before .equal .ensures)
 
 same-length-2 : tie.Need-same-length-2
 same-length-2 c = search needs
 
 returns-2 : tie.Need-returns-2
-returns-2 c = checks-unequal _ _ (c .before .before .before .before .before .compare .ensures) (c .before .enum-told2 .given .1) (c .number .ensures)
-
-same-length-3 : tie.Need-same-length-3
-same-length-3 c = search needs
+returns-2 c = made-led (c .before .before .before .before .before .before .before .asked-at .ensures) (c .before .before .before .before .before .l .given .1) (c .before .before .led-equal .ensures)
 
 returns-3 : tie.Need-returns-3
-returns-3 c = checks-equal _ _ (c .before .before .before .before .before .compare .ensures) (c .before .end .given .1)
+returns-3 c = made-level (c .before .before .before .before .asked-at .ensures) (c .before .before .n2 .given .1) (c .level .ensures)
+
+returns-4 : tie.Need-returns-4
+returns-4 c = made-present (c .before .before .before .before .asked-at .ensures) (c .before .before .n3 .given .1) (c .present .ensures)
 
 pub check-spec : {M : Type 1} → statement M
 check-spec =
     tie.close
     (tie.spec
-    compare-requires
-    enum-told
-    enum-told-2
-    number-requires
-    enum-known-end
+    asked-at-requires
+    enum-known-n
+    equal-requires
+    enum-known-l
+    led-equal-requires
+    enum-known-n-2
+    level-requires
+    enum-known-n-3
+    present-requires
     same-length
     returns
     same-length-2
     returns-2
-    same-length-3
-    returns-3)
+    returns-3
+    returns-4)

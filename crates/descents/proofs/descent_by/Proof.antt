@@ -29,7 +29,7 @@ same-length-2 : tie.Need-same-length-2
 same-length-2 c = search needs
 
 returns-2 : tie.Need-returns-2
-returns-2 c = by-on (c .before .before .before .before .before .before .before .field .ensures) (c .before .before .before .before .before .descent-call .ensures) (c .before .enum-told .given .1) (c .level-right .ensures)
+returns-2 c = by-on (c .before .before .before .before .before .before .before .before .before .before .field .ensures) (c .before .before .before .before .before .before .before .before .descent-call .ensures) (c .before .before .before .before .enum-told .given .1) (c .before .before .level-right .ensures)
 
 pub descent-by-spec : {M : Type 1} → statement M
 descent-by-spec =

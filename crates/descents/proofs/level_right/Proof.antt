@@ -1,23 +1,31 @@
 -- `descents::level_right` meets its contract.
-use Rattle.descents.proofs.Descents.{level-none, level-yes, level-no}
+use Rattle.descents.proofs.Descents.{level-fault, level-good}
 use borrow.Author.Needs.{needs}
 use Rattle.descents.proofs.level_right.Statement.{statement}
 use Rattle.descents.proofs.level_right.Tie as tie
 
-field-requires : tie.Need-field-requires
-field-requires c κs = search needs
+check-requires : tie.Need-check-requires
+check-requires c κs = search needs
+
+enum-known-n : tie.Need-enum-known-n
+enum-known-n c = search needs
+
+enum-told : tie.Need-enum-told
+enum-told c = search needs
+
+same-length : tie.Need-same-length
+same-length c = search needs
 
 returns : tie.Need-returns
-returns c = level-none _ (c .before .before .field .ensures) (c .if1 .taken)
+returns c = level-fault (c .before .before .before .before .before .check .ensures) (c .before .n .given .1)
 
-level-requires : tie.Need-level-requires
-level-requires c κs = search needs
+same-length-2 : tie.Need-same-length-2
+same-length-2 c = search needs
 
 returns-2 : tie.Need-returns-2
-returns-2 c = level-yes _ (c .before .before .before .before .field .ensures) (c .before .before .if1 .left) (c .before .level .ensures) (c .if2 .taken)
-
-returns-3 : tie.Need-returns-3
-returns-3 c = level-no _ (c .before .before .before .before .field .ensures) (c .before .before .if1 .left) (c .before .level .ensures) (c .if2 .left)
+returns-2 c = level-good (c .before .before .before .before .check .ensures) (c .enum-told .given .1)
 
 pub level-right-spec : {M : Type 1} → statement M
-level-right-spec = tie.close (tie.spec field-requires returns level-requires returns-2 returns-3)
+level-right-spec =
+    tie.close
+    (tie.spec check-requires enum-known-n enum-told same-length returns same-length-2 returns-2)

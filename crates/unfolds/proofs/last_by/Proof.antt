@@ -7,8 +7,11 @@ use Rattle.unfolds.proofs.last_by.Tie as tie
 used-right-requires : tie.Need-used-right-requires
 used-right-requires c κs = search needs
 
-last-part-requires : tie.Need-last-part-requires
-last-part-requires c κs = search needs
+behind-stop-requires : tie.Need-behind-stop-requires
+behind-stop-requires c κs = search needs
+
+part-by-requires : tie.Need-part-by-requires
+part-by-requires c κs = search needs
 
 enum-known-n : tie.Need-enum-known-n
 enum-known-n c = search needs
@@ -23,20 +26,21 @@ same-length : tie.Need-same-length
 same-length c = search needs
 
 returns : tie.Need-returns
-returns c = ends-early (c .before .before .before .before .before .last-part .ensures) (c .before .n .given .1)
+returns c = ends-early (c .before .before .before .before .before .before .before .behind-stop .ensures) (c .before .before .before .before .before .part-by .ensures) (c .before .n .given .1)
 
 same-length-2 : tie.Need-same-length-2
 same-length-2 c = search needs
 
 returns-2 : tie.Need-returns-2
-returns-2 c = ends-by (c .before .before .before .before .before .before .before .before .last-part .ensures) (c .before .before .before .before .enum-told .given .1) (c .before .before .before .before .before .before .before .before .before .before .used-right .ensures) (c .before .before .stop-by .ensures)
+returns-2 c = ends-by (c .before .before .before .before .before .before .before .before .before .before .behind-stop .ensures) (c .before .before .before .before .before .before .before .before .part-by .ensures) (c .before .before .before .before .enum-told .given .1) (c .before .before .before .before .before .before .before .before .before .before .before .used-right .ensures) (c .before .before .stop-by .ensures)
 
 pub last-by-spec : {M : Type 1} → statement M
 last-by-spec =
     tie.close
     (tie.spec
     used-right-requires
-    last-part-requires
+    behind-stop-requires
+    part-by-requires
     enum-known-n
     enum-told
     stop-by-requires

@@ -1,5 +1,5 @@
 -- `verdicts::verdict_line` meets its contract: a word and the numbers of each kind of verdict.
-use Rattle.verdicts.specs.Lines.{accept-word, refuse-word}
+use Rattle.verdicts.specs.Lines.{accept-word}
 use Rattle.verdicts.proofs.Printed.{accepted-printed, refused-printed}
 use borrow.Author.Needs.{needs}
 use Rattle.verdicts.proofs.verdict_line.Statement.{statement}
@@ -20,20 +20,8 @@ put-sentence-requires c κs = search needs
 enum-known-v-2 : tie.Need-enum-known-v-2
 enum-known-v-2 c = search needs
 
-cast-t17 : tie.Need-cast-t17
-cast-t17 c = search needs
-
-place-number-requires : tie.Need-place-number-requires
-place-number-requires c κs = search needs
-
-slice-aggregate-put-sentence-3 : tie.Need-slice-aggregate-put-sentence-3
-slice-aggregate-put-sentence-3 c = search needs
-
-slice-aggregate-put-sentence-4 : tie.Need-slice-aggregate-put-sentence-4
-slice-aggregate-put-sentence-4 c = search needs
-
-put-sentence-requires-2 : tie.Need-put-sentence-requires-2
-put-sentence-requires-2 c κs = search needs
+refusal-line-requires : tie.Need-refusal-line-requires
+refusal-line-requires c κs = search needs
 
 same-length : tie.Need-same-length
 same-length c = search needs
@@ -46,8 +34,7 @@ same-length-2 : tie.Need-same-length-2
 same-length-2 c = search needs
 
 returns-2 : tie.Need-returns-2
-unfolding refuse-word
-returns-2 c = refused-printed _ _ (c .before .before .before .before .before .before .before .before .before .v2 .given .1) (c .before .before .before .before .before .before .place-number .ensures) (c .before .before .put-sentence2 .ensures)
+returns-2 c = refused-printed _ _ (c .before .before .before .before .before .v2 .given .1) (c .before .before .refusal-line .ensures)
 
 pub verdict-line-spec : {M : Type 1} → statement M
 verdict-line-spec =
@@ -58,11 +45,7 @@ verdict-line-spec =
     slice-aggregate-put-sentence-2
     put-sentence-requires
     enum-known-v-2
-    cast-t17
-    place-number-requires
-    slice-aggregate-put-sentence-3
-    slice-aggregate-put-sentence-4
-    put-sentence-requires-2
+    refusal-line-requires
     same-length
     returns
     same-length-2

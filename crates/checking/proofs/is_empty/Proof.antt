@@ -1,8 +1,8 @@
--- `unfolds::is_empty` meets its contract.
-use Rattle.unfolds.proofs.Unfoldings.{empty-right}
+-- `checking::is_empty` meets its contract.
+use Rattle.checking.proofs.Looking.{empty-right}
 use borrow.Author.Needs.{needs}
-use Rattle.unfolds.proofs.is_empty.Statement.{statement}
-use Rattle.unfolds.proofs.is_empty.Tie as tie
+use Rattle.checking.proofs.is_empty.Statement.{statement}
+use Rattle.checking.proofs.is_empty.Tie as tie
 
 field-requires : tie.Need-field-requires
 field-requires c κs = search needs
