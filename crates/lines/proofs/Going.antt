@@ -5,11 +5,12 @@ use mathlib.Core.List.{List}
 use native.Mathlib.Omega.{arith}
 use Rattle.patterns.specs.Refusal.{line-place}
 use Rattle.patterns.specs.Judge.{refuse}
+use Rattle.layout.specs.Carried.{carried}
 use Rattle.verdicts.specs.Verdicts.{paper}
 use Rattle.verdicts.specs.declared.Verdict.{Verdict as Ruling}
 use Rattle.checking.specs.declared.Found.{Found}
 use Rattle.checking.specs.declared.Found.the-variants.{Fault, Good}
-use Rattle.lines.specs.Certificates.{refusal-of, LineAt, ClosingAt, LinesAt}
+use Rattle.lines.specs.Certificates.{LineAt, ClosingAt, LinesAt}
 use Rattle.lines.proofs.Certifying.{lines-none, lines-fault, lines-on}
 
 -- n lines from number k on, with the table w; of them m are left, from number j on, with the table v
@@ -24,7 +25,7 @@ module _ {book cert w v : List ℕ} {at k n here j m : ℕ} (G : Goes book cert 
   goes-end h p = G .whole (lines-none (omega arith) p)
 
   module _ {u : List ℕ} {f : Found} (some : 0 < m) (small : j + m ≤ 255) (first : LineAt book cert here j v u f) where
-    pub goes-fault : {d p : ℕ} {r : Ruling} → f ≡ Fault d p → paper r ≡ refuse (refusal-of d line-place j p)
+    pub goes-fault : {d p : ℕ} {r : Ruling} → f ≡ Fault d p → paper r ≡ refuse (carried d line-place j p)
         → LinesAt book cert at k n w u r
     goes-fault q e = G .whole (lines-fault (λ z. omega arith) small first q e)
 

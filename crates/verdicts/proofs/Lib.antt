@@ -16,6 +16,7 @@ pub mod JudgedTable
 pub mod OneVerdict
 pub mod OneLine
 pub mod Carried
+pub mod Parted
 pub mod Compute
 pub mod Examples
 pub mod Table
