@@ -11,7 +11,7 @@ pub mod Framing
 pub mod OneVerdict
 pub mod OneLine
 pub mod Parted
-pub mod Carried
+pub mod Telling
 pub mod Compute
 pub mod Examples
 pub mod Table
