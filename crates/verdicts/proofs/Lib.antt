@@ -15,8 +15,8 @@ pub mod WorkTables
 pub mod JudgedTable
 pub mod OneVerdict
 pub mod OneLine
-pub mod Carried
 pub mod Parted
+pub mod Telling
 pub mod Compute
 pub mod Examples
 pub mod Table
