@@ -1,7 +1,6 @@
 // The judge over bytes: over a book and a certificate, and over the program's input that holds both.
 use layout::Opening;
 use layout::Place;
-use layout::Refusal;
 use verdicts::Verdict;
 ghost use mathlib.Core.Path.{_≡_};
 ghost use Prim.Native.Nat.{_≤_, _<_};
@@ -20,12 +19,7 @@ ghost use Rattle.judging.specs.Judged.{Judged, JudgedInput};
 fn refused(number: u16, place: Place) -> Verdict
     ensures { λ r. ⌜ paper r ≡ refuse (refusal-at number (w-of place) 0) ⌝ }
 {
-    Verdict::Refused(Refusal {
-        number,
-        place,
-        a: 0,
-        b: 0,
-    })
+    Verdict::Refused(layout::carried(number, place, 0, 0))
 }
 
 // The certificate beside its good book: read to its end, then judged.
