@@ -16,6 +16,7 @@ use Rattle.grammar.specs.Books.{a-rule, rules-of}
 use Rattle.books.specs.Counts.{callsOf, Counted}
 use Rattle.books.proofs.Counting.{counted-none, counted-no, counted-more}
 
+-- `p` at σ with cs, its first place k, leads to `q` at τ with ds, its first place j
 pub record Notes (src : Source) (p : Grammar (Book Exp)) (σ : State) (k : ℕ) (cs : List ℕ) (q : Grammar (Book Exp)) (τ : State) (j : ℕ) (ds : List ℕ) : Type 0 where
   pub whole : {after : List ℕ} → Counted src q τ j ds after → Counted src p σ k cs after
 

@@ -133,8 +133,8 @@ fn rules(
 {
     let mut at = c;
     let mut place = k;
-    let mut left = n;
-    while left > 0 {
+    let mut more = n;
+    while more > 0 {
         match rule(listed, book, s, l, words, bytes, at) {
             Walk::No(m, d) => {
                 return Walk::No(m, d);
@@ -145,7 +145,7 @@ fn rules(
             }
         }
         place += 1;
-        left -= 1;
+        more -= 1;
     }
     Walk::On(0, at)
 }

@@ -204,8 +204,8 @@ fn lines(
 {
     let mut at = c;
     let mut number = first;
-    let mut left = n;
-    while left > 0 {
+    let mut more = n;
+    while more > 0 {
         match line(book, counts, s, l, words, bytes, at, number) {
             Walk::No(m, d) => {
                 return Walk::No(m, d);
@@ -215,7 +215,7 @@ fn lines(
             }
         }
         number += 1;
-        left -= 1;
+        more -= 1;
     }
     Walk::On(0, at)
 }

@@ -30,7 +30,7 @@ pub plain-rounds : {A : Type 0} {many : ℕ → Grammar (List A)} {one : Grammar
     → Rounds (λ n x. many n) (λ x. one) (λ x a. x) _∷_ (λ x. [])
 plain-rounds M = record { none = λ x. M .none; more = λ n x. M .more n }
 
--- A round of a loop with n things left, at d: the number shown is not changed by putting a tree together.
+-- a loop over them, with n left at d
 module _ {A B C : Type 0} {many : ℕ → ℕ → Grammar B} {one : ℕ → Grammar A} {next : ℕ → A → ℕ} {join : A → B → B} {end : ℕ → B} (R : Rounds many one next join end) {src : Source} {p : Grammar C} {c d : Cursor} {ws bs ws₁ bs₁ : List ℕ} {val : C → ℕ} {val₁ : B → ℕ} (n x : ℕ) (L : Leads src p c ws bs val (many n x) d ws₁ bs₁ val₁) where
   pub rounds-end : n ≤ 0 → Ran src p c ws bs val (On (val₁ (end x)) d) ws₁ bs₁
   rounds-end e = L .whole (go n e)
@@ -50,6 +50,7 @@ module _ {A B C : Type 0} {many : ℕ → ℕ → Grammar B} {one : ℕ → Gram
     pub rounds-no : {m : ℕ} → r ≡ No m e → Ran src p c ws bs val (No m e) ws₂ bs₂
     rounds-no q = L .whole (opened n some (seq-no first _ q))
 
+    -- putting a tree together does not change the number that is handed back
     pub rounds-on : {v : ℕ} (y : ℕ) → r ≡ On v e → ((a : A) → num a ≡ v → next x a ≡ y)
         → ((a : A) (b : B) → val₁ (join a b) ≡ val₁ b)
         → Leads src p c ws bs val (many (n - 1) y) e ws₂ bs₂ val₁

@@ -154,8 +154,8 @@ fn lines(book: &[u8], certificate: &[u8], w: &mut [u64], at: usize, k: usize, n:
 {
     let mut next = at;
     let mut number = k;
-    let mut left = n;
-    while left > 0 {
+    let mut more = n;
+    while more > 0 {
         match line(book, certificate, w, next, number) {
             Found::Fault(m, part) => {
                 return refused(m, Place::Line, number, part);
@@ -165,7 +165,7 @@ fn lines(book: &[u8], certificate: &[u8], w: &mut [u64], at: usize, k: usize, n:
             }
         }
         number += 1;
-        left -= 1;
+        more -= 1;
     }
     closing(book, certificate, w, next)
 }

@@ -335,8 +335,8 @@ fn pairs(
 {
     let mut at = c;
     let mut next = least;
-    let mut left = n;
-    while left > 0 {
+    let mut more = n;
+    while more > 0 {
         match pair(book, s, l, words, bytes, at, next) {
             Walk::No(m, d) => {
                 return Walk::No(m, d);
@@ -346,7 +346,7 @@ fn pairs(
                 next = x as u16 + 1;
             }
         }
-        left -= 1;
+        more -= 1;
     }
     Walk::On(0, at)
 }

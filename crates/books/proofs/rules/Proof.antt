@@ -15,16 +15,16 @@ use Rattle.books.proofs.rules.Statement.{statement}
 use Rattle.books.proofs.rules.Tie as tie
 
 abbrev Inv-loop : tie.InvT-loop
-Inv-loop listed book s l words₀ bytes₀ counts₀ k n at₀ place₀ left₀ words bytes counts at place left =
+Inv-loop listed book s l words₀ bytes₀ counts₀ k n at₀ place₀ more₀ words bytes counts at place more =
     (length words ≡ length words₀) × (length bytes ≡ length bytes₀) × (length counts ≡ length counts₀)
-    × (place + left ≤ 256)
+    × (place + more ≤ 256)
     × Leads (from s l) (rules-of (arityAt book l listed) n) at₀ words₀ bytes₀ nothing
-    (rules-of (arityAt book l listed) left) at words bytes nothing
+    (rules-of (arityAt book l listed) more) at words bytes nothing
     × Notes (from s l) (rules-of (arityAt book l listed) n) (state at₀ words₀ bytes₀) k counts₀
-    (rules-of (arityAt book l listed) left) (state at words bytes) place counts
+    (rules-of (arityAt book l listed) more) (state at words bytes) place counts
 
 abbrev μ-loop : tie.MeasureT-loop
-μ-loop listed book s l words₀ bytes₀ counts₀ k n at₀ place₀ left₀ words bytes counts at place left = left
+μ-loop listed book s l words₀ bytes₀ counts₀ k n at₀ place₀ more₀ words bytes counts at place more = more
 
 loop-holds : tie.Need-loop-holds Inv-loop μ-loop
 loop-holds c = (refl, refl, refl, search needs, leads-here, notes-here)
@@ -59,8 +59,8 @@ note-requires c κs = search needs
 add-place : tie.Need-add-place Inv-loop μ-loop
 add-place c = search needs
 
-sub-left : tie.Need-sub-left Inv-loop μ-loop
-sub-left c = search needs
+sub-more : tie.Need-sub-more Inv-loop μ-loop
+sub-more c = search needs
 
 loop-less : tie.Need-loop-less Inv-loop μ-loop
 loop-less c = search needs
@@ -97,7 +97,7 @@ rules-spec =
     cast-note
     note-requires
     add-place
-    sub-left
+    sub-more
     loop-less
     loop-again
     same-length-4

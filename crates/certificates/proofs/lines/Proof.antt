@@ -14,13 +14,13 @@ use Rattle.certificates.proofs.lines.Statement.{statement}
 use Rattle.certificates.proofs.lines.Tie as tie
 
 abbrev Inv-loop : tie.InvT-loop
-Inv-loop book counts s l words₀ bytes₀ n first at₀ number₀ left₀ words bytes at number left =
-    (length words ≡ length words₀) × (length bytes ≡ length bytes₀) × (number + left ≤ 256)
+Inv-loop book counts s l words₀ bytes₀ n first at₀ number₀ more₀ words bytes at number more =
+    (length words ≡ length words₀) × (length bytes ≡ length bytes₀) × (number + more ≤ 256)
     × Leads (from s l) (lines-of (arityAt book l false) counts n first) at₀ words₀ bytes₀ nothing
-    (lines-of (arityAt book l false) counts left number) at words bytes nothing
+    (lines-of (arityAt book l false) counts more number) at words bytes nothing
 
 abbrev μ-loop : tie.MeasureT-loop
-μ-loop book counts s l words₀ bytes₀ n first at₀ number₀ left₀ words bytes at number left = left
+μ-loop book counts s l words₀ bytes₀ n first at₀ number₀ more₀ words bytes at number more = more
 
 loop-holds : tie.Need-loop-holds Inv-loop μ-loop
 loop-holds c = (refl, refl, search needs, leads-here)
@@ -46,8 +46,8 @@ enum-known-d c = search needs
 add-number : tie.Need-add-number Inv-loop μ-loop
 add-number c = search needs
 
-sub-left : tie.Need-sub-left Inv-loop μ-loop
-sub-left c = search needs
+sub-more : tie.Need-sub-more Inv-loop μ-loop
+sub-more c = search needs
 
 loop-less : tie.Need-loop-less Inv-loop μ-loop
 loop-less c = search needs
@@ -78,7 +78,7 @@ lines-spec =
     returns
     enum-known-d
     add-number
-    sub-left
+    sub-more
     loop-less
     loop-again
     same-length-3

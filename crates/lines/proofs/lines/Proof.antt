@@ -9,11 +9,11 @@ use Rattle.lines.proofs.lines.Statement.{statement}
 use Rattle.lines.proofs.lines.Tie as tie
 
 abbrev Inv-loop : tie.InvT-loop
-Inv-loop book certificate w₀ at k n next₀ number₀ left₀ w next number left =
-    (length w ≡ length w₀) × (number + left ≤ 255) × Goes book certificate at k n w₀ next number left w
+Inv-loop book certificate w₀ at k n next₀ number₀ more₀ w next number more =
+    (length w ≡ length w₀) × (number + more ≤ 255) × Goes book certificate at k n w₀ next number more w
 
 abbrev μ-loop : tie.MeasureT-loop
-μ-loop book certificate w₀ at k n next₀ number₀ left₀ w next number left = left
+μ-loop book certificate w₀ at k n next₀ number₀ more₀ w next number more = more
 
 loop-holds : tie.Need-loop-holds Inv-loop μ-loop
 loop-holds c = (refl, search needs, goes-here)
@@ -40,8 +40,8 @@ enum-known-end c = search needs
 add-number : tie.Need-add-number Inv-loop μ-loop
 add-number c = search needs
 
-sub-left : tie.Need-sub-left Inv-loop μ-loop
-sub-left c = search needs
+sub-more : tie.Need-sub-more Inv-loop μ-loop
+sub-more c = search needs
 
 loop-less : tie.Need-loop-less Inv-loop μ-loop
 loop-less c = search needs
@@ -72,7 +72,7 @@ lines-spec =
     returns
     enum-known-end
     add-number
-    sub-left
+    sub-more
     loop-less
     loop-again
     closing-requires

@@ -14,13 +14,13 @@ use Rattle.terms.proofs.pairs.Statement.{statement}
 use Rattle.terms.proofs.pairs.Tie as tie
 
 abbrev Inv-loop : tie.InvT-loop
-Inv-loop book s l words₀ bytes₀ n least at₀ next₀ left₀ words bytes at next left =
+Inv-loop book s l words₀ bytes₀ n least at₀ next₀ more₀ words bytes at next more =
     (length words ≡ length words₀) × (length bytes ≡ length bytes₀)
     × Leads (from s l) (pairs-of (arityAt book l false) n least) at₀ words₀ bytes₀ nothing
-    (pairs-of (arityAt book l false) left next) at words bytes nothing
+    (pairs-of (arityAt book l false) more next) at words bytes nothing
 
 abbrev μ-loop : tie.MeasureT-loop
-μ-loop book s l words₀ bytes₀ n least at₀ next₀ left₀ words bytes at next left = left
+μ-loop book s l words₀ bytes₀ n least at₀ next₀ more₀ words bytes at next more = more
 
 loop-holds : tie.Need-loop-holds Inv-loop μ-loop
 loop-holds c = (refl, refl, leads-here)
@@ -49,8 +49,8 @@ cast-next c = let h = pair-small _ _ (c .before .before .before .before .before 
 add-next : tie.Need-add-next Inv-loop μ-loop
 add-next c = let h = pair-small _ _ (c .before .before .before .before .before .before .before .pair .ensures) (c .before .x .given .1) in search needs
 
-sub-left : tie.Need-sub-left Inv-loop μ-loop
-sub-left c = search needs
+sub-more : tie.Need-sub-more Inv-loop μ-loop
+sub-more c = search needs
 
 loop-less : tie.Need-loop-less Inv-loop μ-loop
 loop-less c = search needs
@@ -82,7 +82,7 @@ pairs-spec =
     enum-known-x
     cast-next
     add-next
-    sub-left
+    sub-more
     loop-less
     loop-again
     same-length-3
