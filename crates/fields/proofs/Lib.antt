@@ -16,6 +16,7 @@ pub mod Rounds
 pub mod Outcomes
 pub mod Leads
 pub mod Stops
+pub mod Spends
 pub mod Faults
 pub mod ListFaults
 pub mod Asking

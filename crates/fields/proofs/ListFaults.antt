@@ -14,21 +14,21 @@ use Rattle.fields.specs.declared.Field.the-variants.{Got, Bad}
 use Rattle.fields.specs.Source.{from, fieldAt}
 use Rattle.fields.specs.Kinds.{Kind, bits, Range, InRange, Unnormal, Spent}
 use Rattle.fields.specs.Grammar.{Grammar, ask, Outcome, outcome, trace}
-use Rattle.fields.specs.Faults.{Listed, ListFault}
+use Rattle.fields.specs.Faults.{Led, Listed, ListFault}
 use Rattle.fields.proofs.Ranges.{outside-exactly, unnormal-exactly}
 use Rattle.fields.proofs.Spelled.{bits-few}
 use Rattle.fields.proofs.Sources.{field-listed, listed-got, listed-wide, listed-past}
 use Rattle.fields.proofs.Ways.{way-to}
 use Rattle.fields.proofs.Binds.{after, end-no}
-use Rattle.fields.proofs.Gives.{Gives, narrow-reached, stands-give, stands-within, take-stands}
-use Rattle.fields.proofs.Found.{trace-sized, trace-listed, trace-within}
-use Rattle.fields.proofs.Leads.{Why, way-stops, led-narrow, led-sized, led-wide, led-outcome}
+use Rattle.fields.proofs.Gives.{Gives, narrow-reached, stands-give, take-stands}
+use Rattle.fields.proofs.Found.{trace-sized, trace-listed}
+use Rattle.fields.proofs.Leads.{Why, way-stops, led-narrow, led-sized, led-few, led-outcome}
 use Rattle.fields.proofs.Stops.{why, stops-spent, stops-bad, stops-refused}
 use Rattle.fields.proofs.Trips.{start}
 
--- a list whose fields' bits can be counted
-abbrev pub ShortList : List ℕ → Type 0
-ShortList l = 16 * length l < 2 ^ 32
+-- a grammar whose fields' bits can be counted
+abbrev pub Countable : {A : Type 0} → Grammar A → Type 0
+Countable {A} p = (fs : List (ℕ × ℕ)) (q : Grammar A) → Led p fs q → width fs < 2 ^ 32
 
 -- ---- what stands at a place
 
@@ -42,7 +42,7 @@ module _ (l : List ℕ) (k : Kind) (d : Cursor) (few : d .n < 2 ^ 32) (close : d
   number-past : length l ≤ d .n → fieldAt [] l (bits k) d ≡ Bad 3
   number-past h = field-listed [] l (bits k) d (bits-few k .1) few close listed ∙ listed-past l (bits k) (d .n) h
 
-module _ {A : Type 0} (l : List ℕ) (p : Grammar A) (short : ShortList l) where
+module _ {A : Type 0} (l : List ℕ) (p : Grammar A) (short : Countable p) where
   list-fault : (k : Kind) (r : Range) (next : ℕ → Grammar A) (d : Cursor) (m : ℕ) → d .n < 2 ^ 32 → d .bit < 2 ^ 32 → d .listed ≡ true
       → Listed l p (d .n) (ask k r next) → Why (from [] l) k r d m → ListFault l p m (d .n)
   list-fault k r next d m few close listed at w =
@@ -82,8 +82,8 @@ module _ {A : Type 0} (l : List ℕ) (p : Grammar A) (short : ShortList l) where
       let b : d .bit ≡ 0 + width fs = ap (λ (c : Cursor). c .bit) q in
       let n : d .n ≡ length fs = ap (λ (c : Cursor). c .n) q ∙ omega arith in
       let i : d .listed ≡ true = ap (λ (c : Cursor). c .listed) q in
-      let j = trace-within [] l p (start true) refl (omega arith) in
-      let w = led-wide (x .led) in
+      let w = short fs (ask (x .kind) (x .range) (x .next)) (x .led) in
+      let f = led-few (x .led) in
       list-fault (x .kind) (x .range) (x .next) d m (omega arith) (omega arith) i
       (record {
         fields = fs;
@@ -102,24 +102,16 @@ module _ {A : Type 0} (l : List ℕ) (p : Grammar A) (short : ShortList l) where
     listed-number : end .n ≡ place
     listed-number = let e = at .ends in omega arith
 
-    listed-within : length (at .fields) ≤ length l
-    listed-within =
-        omega (
-          arith,
-          stands-within l 0 (at .fields) (omega arith)
-              (take-stands l 0 (at .fields) (ap (λ (k : ℕ). take k l) (sym (at .ends)) ∙ at .stand)),
-        )
-
     few : end .n < 2 ^ 32
-    few = let i = listed-within in omega arith
+    few = let w = short (at .fields) q (at .led) in let f = led-few (at .led) in omega arith
 
     close : end .bit < 2 ^ 32
-    close = let i = listed-within in let w = led-wide (at .led) in omega arith
+    close = let w = short (at .fields) q (at .led) in omega arith
 
     pub listed-gives : Gives (from [] l) (start true) (at .fields)
     listed-gives =
-        let i = listed-within in
-        let w = led-wide (at .led) in
+        let w = short (at .fields) q (at .led) in
+        let f = led-few (at .led) in
         stands-give [] l (start true) (at .fields) refl
         (narrow-reached (start true) (at .fields) (led-narrow (at .led)) (omega arith) (omega arith)) (led-sized (at .led))
         (take-stands l 0 (at .fields) (ap (λ (k : ℕ). take k l) (sym (at .ends)) ∙ at .stand))

@@ -8,3 +8,4 @@ pub mod BookFields
 pub mod CertificateFields
 pub mod OneToOne
 pub mod FixedBooks
+pub mod FewFields

@@ -11,7 +11,7 @@ use lib.ListN.{length, take}
 use lib.Dec.{eqb}
 use Rattle.bits.specs.Bits.{Bytes}
 use Rattle.bits.specs.Packed.{width, packed}
-use Rattle.patterns.specs.Refusal.{Refusal}
+use Rattle.patterns.specs.Refusal.{Refusal, book-place, certificate-place}
 use Rattle.fields.specs.declared.Cursor.{Cursor}
 use Rattle.fields.specs.Source.{from}
 use Rattle.fields.specs.Grammar.{Grammar, done, Outcome, outcome, trace}
@@ -21,17 +21,13 @@ use Rattle.fields.proofs.Binds.{after, end-ok}
 use Rattle.fields.proofs.Found.{Found, trace-sized, trace-reads, trace-room, trace-listed, trace-within}
 use Rattle.fields.proofs.Leads.{way-leads, led-trace}
 use Rattle.fields.proofs.Faults.{Short, stopped-fault, fault-stops, reached-gives, reached-outcome}
-use Rattle.fields.proofs.ListFaults.{ShortList, stopped-list-fault, list-fault-stops, listed-gives, listed-outcome}
+use Rattle.fields.proofs.ListFaults.{Countable, stopped-list-fault, list-fault-stops, listed-gives, listed-outcome}
+use Rattle.grammar.specs.Books.{RuleBook, a-book}
+use Rattle.grammar.proofs.FewFields.{book-countable, certificate-countable}
 use Rattle.books.specs.Counts.{start}
-use Rattle.layout.specs.Files.{Opened, good, bad, refusal-at, ends-at, closed-bytes, open-bytes, closed-list, open-list}
+use Rattle.layout.specs.Files.{Opened, good, bad, refusal-at, ends-at, closed-bytes, open-bytes, closed-list, open-list, certificate-of}
+use Rattle.layout.specs.FirstFaults.{Faulty}
 use Rattle.layout.proofs.RoundTrips.{bytes-packed, packed-opens}
-
--- what a refusal of a file says: its number and its place
-pub record Refuses (Why : ℕ → ℕ → Type 0) (w : ℕ) (r : Refusal) : Type 0 where
-  pub number : ℕ
-  pub place : ℕ
-  pub why : Why number place
-  pub told : r ≡ refusal-at number w place
 
 -- ---- bytes
 
@@ -68,17 +64,17 @@ module _ {A : Type 0} (w : ℕ) (p : Grammar A) (s : List ℕ) (short : Short s)
           let z : _≡_ {A = ℕ} 0 1 = cc in
           omega arith
 
-  pub bytes-refused : (r : Refusal) → open-bytes w p s ≡ bad r → Refuses (Fault s p) w r
+  pub bytes-refused : (r : Refusal) → open-bytes w p s ≡ bad r → Faulty (Fault s p) w r
   unfolding open-bytes
   bytes-refused r = go (outcome (from s []) p (start false)) refl
     where
       under : (a : A) (d : Cursor) → outcome (from s []) p (start false) ≡ Outcome.ok a d → (b : Bool) → ends-at s (d .bit) ≡ b
-          → cond b (good a (trace (from s []) p (start false))) (bad (refusal-at 7 w (d .bit))) ≡ bad r → Refuses (Fault s p) w r
+          → cond b (good a (trace (from s []) p (start false))) (bad (refusal-at 7 w (d .bit))) ≡ bad r → Faulty (Fault s p) w r
       under a d e true f q = let z : _≡_ {A = ℕ} 0 1 = cc q in absurd (omega arith)
       under a d e false f q = record { number = 7; place = d .bit; why = unended a d e f; told = cc q }
 
       go : (o : Outcome A) → outcome (from s []) p (start false) ≡ o → closed-bytes w s o (trace (from s []) p (start false)) ≡ bad r
-          → Refuses (Fault s p) w r
+          → Faulty (Fault s p) w r
       go (Outcome.ok a d) e q = under a d e (ends-at s (d .bit)) refl q
       go (Outcome.no m d) e q = record { number = m; place = d .bit; why = stopped-fault s p short e; told = cc q }
 
@@ -112,7 +108,7 @@ module _ {A : Type 0} (w : ℕ) (p : Grammar A) (s : List ℕ) (short : Short s)
 
 -- ---- a list of fields
 
-module _ {A : Type 0} (w : ℕ) (p : Grammar A) (l : List ℕ) (short : ShortList l) where
+module _ {A : Type 0} (w : ℕ) (p : Grammar A) (short : Countable p) (l : List ℕ) where
   -- behind a good run, fields that are left over
   unlisted : (a : A) (d : Cursor) → outcome (from [] l) p (start true) ≡ Outcome.ok a d → d .n ≢ length l → ListFault l p 7 (d .n)
   unlisted a d e f =
@@ -129,18 +125,18 @@ module _ {A : Type 0} (w : ℕ) (p : Grammar A) (l : List ℕ) (short : ShortLis
       (omega arith)
       refl
 
-  pub list-refused : (r : Refusal) → open-list w p l ≡ bad r → Refuses (ListFault l p) w r
+  pub list-refused : (r : Refusal) → open-list w p l ≡ bad r → Faulty (ListFault l p) w r
   unfolding open-list
   list-refused r = go (outcome (from [] l) p (start true)) refl
     where
       under : (a : A) (d : Cursor) → outcome (from [] l) p (start true) ≡ Outcome.ok a d → (b : Bool) → eqb (d .n) (length l) ≡ b
-          → cond b (good a (trace (from [] l) p (start true))) (bad (refusal-at 7 w (d .n))) ≡ bad r → Refuses (ListFault l p) w r
+          → cond b (good a (trace (from [] l) p (start true))) (bad (refusal-at 7 w (d .n))) ≡ bad r → Faulty (ListFault l p) w r
       under a d e true f q = let z : _≡_ {A = ℕ} 0 1 = cc q in absurd (omega arith)
       under a d e false f q =
           record { number = 7; place = d .n; why = unlisted a d e (eqb-false (d .n) (length l) f); told = cc q }
 
       go : (o : Outcome A) → outcome (from [] l) p (start true) ≡ o → closed-list w l o (trace (from [] l) p (start true)) ≡ bad r
-          → Refuses (ListFault l p) w r
+          → Faulty (ListFault l p) w r
       go (Outcome.ok a d) e q = under a d e (eqb (d .n) (length l)) refl q
       go (Outcome.no m d) e q = record { number = m; place = d .n; why = stopped-list-fault l p short e; told = cc q }
 
@@ -164,3 +160,31 @@ module _ {A : Type 0} (w : ℕ) (p : Grammar A) (l : List ℕ) (short : ShortLis
       go (yes e) (ListFault.unnormal at h x y i u q) = absurd (omega arith)
       go (yes e) (ListFault.too-many at h q) = absurd (omega arith)
       go (no n) g = let x = list-fault-stops l p short m place g n in rw (x .2, x .1)
+
+-- ---- both ways
+
+-- a file in bytes is refused exactly with its first fault
+pub bytes-first-fault : {A : Type 0} (w : ℕ) (p : Grammar A) (s : List ℕ) → Bytes s → length s ≤ 32768
+    → (r : Refusal) → (open-bytes w p s ≡ bad r) ↔ Faulty (Fault s p) w r
+bytes-first-fault w p s bytes n r = (
+  bytes-refused w p s (omega arith) r,
+  λ f. fault-refused w p s (omega arith) bytes (f .number) (f .place) (f .why) ∙ ap bad (sym (f .told)),
+)
+
+-- so is a list of fields, however long, by a grammar whose bits can be counted
+pub list-first-fault : {A : Type 0} (w : ℕ) (p : Grammar A) → Countable p → (l : List ℕ) (r : Refusal)
+    → (open-list w p l ≡ bad r) ↔ Faulty (ListFault l p) w r
+list-first-fault w p short l r = (
+  list-refused w p short l r,
+  λ f. list-fault-refused w p short l (f .number) (f .place) (f .why) ∙ ap bad (sym (f .told)),
+)
+
+-- the grammars of both files are such
+pub book-list-first-fault : (l : List ℕ) (r : Refusal)
+    → (open-list book-place a-book l ≡ bad r) ↔ Faulty (ListFault l a-book) book-place r
+book-list-first-fault = list-first-fault book-place a-book book-countable
+
+pub certificate-list-first-fault : (b : RuleBook) (l : List ℕ) (r : Refusal)
+    → (open-list certificate-place (certificate-of b) l ≡ bad r) ↔ Faulty (ListFault l (certificate-of b)) certificate-place r
+unfolding certificate-of
+certificate-list-first-fault b = list-first-fault certificate-place (certificate-of b) (certificate-countable _ _)

@@ -20,8 +20,9 @@ use Rattle.grammar.specs.Listing.{book-fields, certificate-fields}
 use Rattle.grammar.proofs.FixedBooks.{book-fixed}
 use Rattle.fields.specs.Faults.{Fault}
 use Rattle.layout.specs.Files.{Opened, good, bad, refusal-at, certificate-of, open-book, open-certificate}
+use Rattle.layout.specs.FirstFaults.{Faulty}
 use Rattle.layout.proofs.RoundTrips.{bytes-packed}
-use Rattle.layout.proofs.FirstFaults.{Refuses, bytes-refused, fault-refused}
+use Rattle.layout.proofs.FirstFaults.{bytes-first-fault}
 use Rattle.layout.proofs.OneFile.{book-file-fits, book-has-a-file, certificate-file-fits, certificate-has-a-file}
 use Rattle.verdicts.specs.Judging.{judging}
 use Rattle.verdicts.specs.Demands.{BookFile, CertificateFile, Acceptable, FirstRefusal, short-table, long-book, long-certificate, bad-book, bad-certificate, broken-check, NeverStuck}
@@ -80,27 +81,16 @@ module _ (book certificate : List ℕ) (size : ℕ) where
       trees-judged (a .table) (a .rule-book) (a .book-file) (a .tree) (a .certificate-file)
       ∙ accepts-exactly one (a .rule-book .rules) (a .tree) line pace .1 (a .good, a .small, a .own-line, a .own-pace)
 
--- a refusal of either file is its first fault
-module _ (book : List ℕ) (n : length book ≤ 16384) where
-  pub book-faulty : (r : Refusal) → open-book book ≡ bad r → Refuses (Fault book a-book) book-place r
-  unfolding open-book
-  book-faulty r e = bytes-refused book-place a-book book (omega arith) r e
+-- either file is refused exactly with its first fault
+pub book-first-fault : (book : List ℕ) → Bytes book → length book ≤ 16384 → (r : Refusal)
+    → (open-book book ≡ bad r) ↔ Faulty (Fault book a-book) book-place r
+unfolding open-book
+book-first-fault book bytes n r = bytes-first-fault book-place a-book book bytes (omega arith) r
 
-  pub faulty-book : Bytes book → (number place : ℕ) → Fault book a-book number place → open-book book ≡ bad (refusal-at number book-place place)
-  unfolding open-book
-  faulty-book bytes number place f = fault-refused book-place a-book book (omega arith) bytes number place f
-
-module _ (b : RuleBook) (certificate : List ℕ) (n : length certificate ≤ 32768) where
-  pub certificate-faulty : (r : Refusal) → open-certificate b certificate ≡ bad r
-      → Refuses (Fault certificate (certificate-of b)) certificate-place r
-  unfolding open-certificate
-  certificate-faulty r e = bytes-refused certificate-place (certificate-of b) certificate (omega arith) r e
-
-  pub faulty-certificate : Bytes certificate → (number place : ℕ) → Fault certificate (certificate-of b) number place
-      → open-certificate b certificate ≡ bad (refusal-at number certificate-place place)
-  unfolding open-certificate
-  faulty-certificate bytes number place f =
-      fault-refused certificate-place (certificate-of b) certificate (omega arith) bytes number place f
+pub certificate-first-fault : (b : RuleBook) (certificate : List ℕ) → Bytes certificate → length certificate ≤ 32768 → (r : Refusal)
+    → (open-certificate b certificate ≡ bad r) ↔ Faulty (Fault certificate (certificate-of b)) certificate-place r
+unfolding open-certificate
+certificate-first-fault b certificate bytes n r = bytes-first-fault certificate-place (certificate-of b) certificate bytes n r
 
 module _ (book certificate : List ℕ) (is-bytes : Bytes book) (are-bytes : Bytes certificate) (size : ℕ) where
   pub first-refused : (r : Refusal) → FirstRefusal book certificate size r → judging book certificate size ≡ refuse r
@@ -111,12 +101,12 @@ module _ (book certificate : List ℕ) (is-bytes : Bytes book) (are-bytes : Byte
   first-refused r (bad-book t n m number place f e) =
       table-enough book certificate size t
       ∙ both-short book certificate n m
-      ∙ book-refused book certificate r (faulty-book book n is-bytes number place f ∙ ap bad (sym e))
+      ∙ book-refused book certificate r (book-first-fault book is-bytes n r .1 (record { number = number; place = place; why = f; told = e }))
   first-refused r (bad-certificate t b f m number place g e) =
       table-enough book certificate size t
       ∙ both-short book certificate (f .short) m
       ∙ certificate-refused book certificate b _ (book-opens book b f) r
-      (faulty-certificate b certificate m are-bytes number place g ∙ ap bad (sym e))
+      (certificate-first-fault b certificate are-bytes m r .1 (record { number = number; place = place; why = g; told = e }))
   first-refused r (broken-check t b f K g e) = trees-judged book certificate size t b f K g ∙ refuses-exactly one (b .rules) K r .1 e
 
 -- how a verdict comes about: a refusal before any check, or the judge over the trees of both files
@@ -134,7 +124,7 @@ module _ (book certificate : List ℕ) (is-bytes : Bytes book) (are-bytes : Byte
       certificate-way t b f m (good K fs) e =
           judged t b f K (certificate-file b (f .limits) certificate are-bytes m K fs e)
       certificate-way t b f m (bad r) e =
-          let x = certificate-faulty b certificate m r e in
+          let x = certificate-first-fault b certificate are-bytes m r .0 e in
           refused r (bad-certificate t b f m (x .number) (x .place) (x .why) (x .told))
 
       book-way : 8192 ≤ size → length book ≤ 16384 → length certificate ≤ 32768 → (o : Opened RuleBook) → open-book book ≡ o
@@ -142,7 +132,7 @@ module _ (book certificate : List ℕ) (is-bytes : Bytes book) (are-bytes : Byte
       book-way t n m (good b fs) e =
           certificate-way t b (book-file book is-bytes n b fs e) m (open-certificate b certificate) refl
       book-way t n m (bad r) e =
-          let x = book-faulty book n r e in refused r (bad-book t n m (x .number) (x .place) (x .why) (x .told))
+          let x = book-first-fault book is-bytes n r .0 e in refused r (bad-book t n m (x .number) (x .place) (x .why) (x .told))
 
       table : Dec (8192 ≤ size) → Dec (length book ≤ 16384) → Dec (length certificate ≤ 32768) → Way book certificate size
       table (no t) n m = refused _ (short-table (omega arith) refl)
