@@ -1,16 +1,16 @@
-// Both files looked up through the work table: where rules and lines lie, uses, and two sides compared at a part.
+// Both files looked up through the work table: where rules and lines lie, uses, and what is asked at each part.
+mod rights;
+mod sides;
+
 use bits::Cursor;
 use bits::Field;
-use instances::Side;
 ghost use mathlib.Core.Path.{_≡_};
 ghost use Prim.Native.Nat.{_+_, _≤_, _<_};
 ghost use lib.ListN.{length, getD};
-ghost use Rattle.instances.specs.Instances.{Builds};
 ghost use Rattle.checking.specs.Placed.{Takes, Passes, PassesRule, PassesRight, Notes, Indexes};
 ghost use Rattle.checking.specs.Known.{ReadsUse};
-ghost use Rattle.checking.specs.Subjects.{Sided, Compares, PlainRight, UsedRight};
-ghost use Rattle.checking.specs.Rights.{EmptyRight, Looks, LooksLevel};
-ghost use Rattle.checking.specs.Asked.{Equals, LedEquals, asked-at, Checks};
+ghost use Rattle.checking.specs.Subjects.{PlainRight, UsedRight};
+ghost use Rattle.checking.specs.Asked.{LedEquals, asked-at, Checks};
 
 // A field, and the bit behind it.
 pub struct Read {
@@ -194,115 +194,6 @@ pub fn read_use(book: &[u8], certificate: &[u8], w: &mut [u64], at: usize) -> In
     }
 }
 
-// One side of a comparison.
-fn one_side(book: &[u8], certificate: &[u8], w: &mut [u64], base: usize, a: Subject) -> Side
-    requires { ⌜ (1024 ≤ base) × (base + 3072 ≤ length (now w)) ⌝ }
-    ensures { λ r. ⌜ Sided (now (book .entry)) (now (certificate .entry)) base a (now (w .entry)) (now (w .exit)) r ⌝ }
-{
-    match a {
-        Subject::Empty => Side::Done(0, 0),
-        Subject::Call(at) => instances::build(book, book, certificate, w, base, at, 1, 0, 832),
-        Subject::Plain(at, i, j) => instances::build(
-            book,
-            certificate,
-            certificate,
-            w,
-            base,
-            at,
-            i,
-            j,
-            768,
-        ),
-        Subject::Used(at, i, j) => instances::build(
-            book,
-            certificate,
-            certificate,
-            w,
-            base,
-            at,
-            i,
-            j,
-            896,
-        ),
-    }
-}
-
-// Builds the first side, then the second, and compares them.
-fn compare(book: &[u8], certificate: &[u8], w: &mut [u64], a: Subject, b: Subject) -> Compared
-    requires { ⌜ 8192 ≤ length (now w) ⌝ }
-    ensures { λ r. ⌜ Compares (now (book .entry)) (now (certificate .entry)) a b (now (w .entry)) (now (w .exit)) r ⌝ }
-{
-    let Side::Done(n, end) = one_side(book, certificate, w, 1024, a) else {
-        return Compared::TooBig;
-    };
-    let Side::Done(m, _) = one_side(book, certificate, w, 4096, b) else {
-        return Compared::TooBig;
-    };
-    if table::same(w, 1024, n, 4096, m) {
-        return Compared::Equal(end);
-    }
-    Compared::Unequal
-}
-
-// Two sides are equal, else a number; 16 if one of them is too large.
-fn equal(
-    book: &[u8],
-    certificate: &[u8],
-    w: &mut [u64],
-    number: u16,
-    part: usize,
-    a: Subject,
-    b: Subject,
-) -> Found
-    requires { ⌜ 8192 ≤ length (now w) ⌝ }
-    ensures { λ r. ⌜ Equals (now (book .entry)) (now (certificate .entry)) number part a b (now (w .entry)) (now (w .exit)) r ⌝ }
-{
-    match compare(book, certificate, w, a, b) {
-        Compared::TooBig => Found::Fault(16, part),
-        Compared::Unequal => Found::Fault(number, part),
-        Compared::Equal(end) => Found::Good(end),
-    }
-}
-
-// Whether the right at a bit is the empty mark.
-fn is_empty(certificate: &[u8], right: usize) -> bool
-    ensures { λ r. ⌜ EmptyRight (now (certificate .entry)) right r ⌝ }
-{
-    let any = field(certificate, 1, right);
-    any.value == 0
-}
-
-// A right is the empty mark, else a number.
-fn spent(certificate: &[u8], number: u16, part: usize, right: usize) -> Found
-    ensures { λ r. ⌜ Looks (now (certificate .entry)) right Behind.Judged number part r ⌝ }
-{
-    if is_empty(certificate, right) {
-        return Found::Good(0);
-    }
-    Found::Fault(number, part)
-}
-
-// A right is not the empty mark, else a number.
-fn present(certificate: &[u8], number: u16, part: usize, right: usize) -> Found
-    ensures { λ r. ⌜ Looks (now (certificate .entry)) right Behind.Pending number part r ⌝ }
-{
-    if is_empty(certificate, right) {
-        return Found::Fault(number, part);
-    }
-    Found::Good(0)
-}
-
-// The right of a use is what the calls behind it ask for, else a number.
-fn led(certificate: &[u8], number: u16, part: usize, right: usize, behind: Behind) -> Found
-    ensures { λ r. ⌜ Looks (now (certificate .entry)) right behind number part r ⌝ }
-{
-    match behind {
-        Behind::Judged => spent(certificate, number, part, right),
-        Behind::Pending => present(certificate, number, part, right),
-        Behind::Nothing => Found::Good(0),
-    }
-}
-
 // The same, else a number; then two sides are equal, else another.
 fn led_equal(
     book: &[u8],
@@ -319,25 +210,10 @@ fn led_equal(
     requires { ⌜ 8192 ≤ length (now w) ⌝ }
     ensures { λ r. ⌜ LedEquals (now (book .entry)) (now (certificate .entry)) before number part right behind a b (now (w .entry)) (now (w .exit)) r ⌝ }
 {
-    match led(certificate, before, part, right, behind) {
+    match rights::led(certificate, before, part, right, behind) {
         Found::Fault(n, p) => Found::Fault(n, p),
-        Found::Good(_) => equal(book, certificate, w, number, part, a, b),
+        Found::Good(_) => sides::equal(book, certificate, w, number, part, a, b),
     }
-}
-
-// A right is empty or has a = 0 in every power, else a number.
-fn level(book: &[u8], certificate: &[u8], number: u16, part: usize, right: usize) -> Found
-    ensures { λ r. ⌜ LooksLevel (now (book .entry)) (now (certificate .entry)) right number part r ⌝ }
-{
-    let any = field(certificate, 1, right);
-    let term = any.at;
-    if any.value == 0 {
-        return Found::Good(0);
-    }
-    if instances::level(book, certificate, term) {
-        return Found::Good(0);
-    }
-    Found::Fault(number, part)
 }
 
 // What is asked at each part of each kind of line.
@@ -380,9 +256,9 @@ pub fn check(
     ensures { λ r. ⌜ Checks (now (book .entry)) (now (certificate .entry)) kind part right behind a b (now (w .entry)) (now (w .exit)) r ⌝ }
 {
     match asked_at(kind, part) {
-        Asked::Same(n) => equal(book, certificate, w, n, part, a, b),
+        Asked::Same(n) => sides::equal(book, certificate, w, n, part, a, b),
         Asked::Led(l, n) => led_equal(book, certificate, w, l, n, part, right, behind, a, b),
-        Asked::Level(n) => level(book, certificate, n, part, right),
-        Asked::Present(n) => present(certificate, n, part, right),
+        Asked::Level(n) => rights::level(book, certificate, n, part, right),
+        Asked::Present(n) => rights::present(certificate, n, part, right),
     }
 }

@@ -1,8 +1,8 @@
--- `checking::present` meets its contract.
+-- `checking::rights::present` meets its contract.
 use Rattle.checking.proofs.Looking.{present-met, present-unmet}
 use borrow.Author.Needs.{needs}
-use Rattle.checking.proofs.present.Statement.{statement}
-use Rattle.checking.proofs.present.Tie as tie
+use Rattle.checking.proofs.rights.present.Statement.{statement}
+use Rattle.checking.proofs.rights.present.Tie as tie
 
 is-empty-requires : tie.Need-is-empty-requires
 is-empty-requires c κs = search needs

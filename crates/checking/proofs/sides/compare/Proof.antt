@@ -1,9 +1,9 @@
--- `checking::compare` meets its contract.
+-- `checking::sides::compare` meets its contract.
 use Rattle.checking.proofs.Subjects.{sides-room}
 use Rattle.checking.proofs.Subjects.{first-full, second-full, compares-equal, compares-unequal}
 use borrow.Author.Needs.{needs}
-use Rattle.checking.proofs.compare.Statement.{statement}
-use Rattle.checking.proofs.compare.Tie as tie
+use Rattle.checking.proofs.sides.compare.Statement.{statement}
+use Rattle.checking.proofs.sides.compare.Tie as tie
 
 one-side-requires : tie.Need-one-side-requires
 one-side-requires c κs = search needs

@@ -1,8 +1,8 @@
--- `checking::level` meets its contract.
+-- `checking::rights::level` meets its contract.
 use Rattle.checking.proofs.Looking.{level-none, level-yes, level-no}
 use borrow.Author.Needs.{needs}
-use Rattle.checking.proofs.level.Statement.{statement}
-use Rattle.checking.proofs.level.Tie as tie
+use Rattle.checking.proofs.rights.level.Statement.{statement}
+use Rattle.checking.proofs.rights.level.Tie as tie
 
 field-requires : tie.Need-field-requires
 field-requires c κs = search needs

@@ -1,8 +1,8 @@
--- `checking::is_empty` meets its contract.
+-- `checking::rights::is_empty` meets its contract.
 use Rattle.checking.proofs.Looking.{empty-right}
 use borrow.Author.Needs.{needs}
-use Rattle.checking.proofs.is_empty.Statement.{statement}
-use Rattle.checking.proofs.is_empty.Tie as tie
+use Rattle.checking.proofs.rights.is_empty.Statement.{statement}
+use Rattle.checking.proofs.rights.is_empty.Tie as tie
 
 field-requires : tie.Need-field-requires
 field-requires c κs = search needs

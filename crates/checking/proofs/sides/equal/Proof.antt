@@ -1,8 +1,8 @@
--- `checking::equal` meets its contract.
+-- `checking::sides::equal` meets its contract.
 use Rattle.checking.proofs.Finding.{equals-too-big, equals-unequal, equals-equal}
 use borrow.Author.Needs.{needs}
-use Rattle.checking.proofs.equal.Statement.{statement}
-use Rattle.checking.proofs.equal.Tie as tie
+use Rattle.checking.proofs.sides.equal.Statement.{statement}
+use Rattle.checking.proofs.sides.equal.Tie as tie
 
 compare-requires : tie.Need-compare-requires
 compare-requires c κs = search needs

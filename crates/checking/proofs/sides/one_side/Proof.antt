@@ -1,8 +1,8 @@
--- `checking::one_side` meets its contract.
+-- `checking::sides::one_side` meets its contract.
 use Rattle.checking.proofs.Subjects.{sided-as, sided-empty, sided-call, sided-plain, sided-used}
 use borrow.Author.Needs.{needs}
-use Rattle.checking.proofs.one_side.Statement.{statement}
-use Rattle.checking.proofs.one_side.Tie as tie
+use Rattle.checking.proofs.sides.one_side.Statement.{statement}
+use Rattle.checking.proofs.sides.one_side.Tie as tie
 
 enum-told : tie.Need-enum-told
 enum-told c = search needs

@@ -1,8 +1,8 @@
--- `checking::spent` meets its contract.
+-- `checking::rights::spent` meets its contract.
 use Rattle.checking.proofs.Looking.{spent-met, spent-unmet}
 use borrow.Author.Needs.{needs}
-use Rattle.checking.proofs.spent.Statement.{statement}
-use Rattle.checking.proofs.spent.Tie as tie
+use Rattle.checking.proofs.rights.spent.Statement.{statement}
+use Rattle.checking.proofs.rights.spent.Tie as tie
 
 is-empty-requires : tie.Need-is-empty-requires
 is-empty-requires c κs = search needs

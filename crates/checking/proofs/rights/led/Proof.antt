@@ -1,8 +1,8 @@
--- `checking::led` meets its contract.
+-- `checking::rights::led` meets its contract.
 use Rattle.checking.proofs.Looking.{led-nothing, led-by}
 use borrow.Author.Needs.{needs}
-use Rattle.checking.proofs.led.Statement.{statement}
-use Rattle.checking.proofs.led.Tie as tie
+use Rattle.checking.proofs.rights.led.Statement.{statement}
+use Rattle.checking.proofs.rights.led.Tie as tie
 
 enum-told : tie.Need-enum-told
 enum-told c = search needs
