@@ -70,3 +70,6 @@ at-done {a = a} {n = n} = over n a (omega arith)
 pub at-then : {A B : Type 0} (p : Grammar A) (f : A → Grammar B) {l m : ℕ} (n : ℕ) → AtMost l p → ((a : A) → AtMost m (f a)) → l + m ≤ n
     → AtMost n (bind p f)
 at-then p f {l} {m} n h g k = spends-bind p f (spends-more n (spends-beside m h) (omega arith)) (λ a. spends-more (0 + m) (g a) (omega arith))
+
+pub at-made : {A B : Type 0} (p : Grammar A) (f : A → B) {n : ℕ} → AtMost n p → AtMost n (bind p (λ a. done (f a)))
+at-made p f {n} h = at-then p (λ a. done (f a)) n h (λ a. at-done {n = 0}) (omega arith)

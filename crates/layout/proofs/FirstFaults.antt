@@ -6,7 +6,7 @@ use mathlib.Core.List.{List, []}
 use mathlib.Core.Bool.{Bool, true, false, cond}
 use native.Mathlib.Omega.{arith}
 use native.Mathlib.Decide.{ℕ-discrete}
-use borrow.Author.Tests.{eq-eqb, ne-eqb, eqb-true, eqb-false}
+use borrow.Author.Tests.{ne-eqb, eqb-false}
 use lib.ListN.{length, take}
 use lib.Dec.{eqb}
 use Rattle.bits.specs.Bits.{Bytes}
@@ -21,11 +21,11 @@ use Rattle.fields.proofs.Binds.{after, end-ok}
 use Rattle.fields.proofs.Found.{Found, trace-sized, trace-reads, trace-room, trace-listed, trace-within}
 use Rattle.fields.proofs.Leads.{way-leads, led-trace}
 use Rattle.fields.proofs.Faults.{Short, stopped-fault, fault-stops, reached-gives, reached-outcome}
-use Rattle.fields.proofs.ListFaults.{Countable, stopped-list-fault, list-fault-stops, listed-gives, listed-outcome}
+use Rattle.fields.proofs.ListFaults.{Countable, stopped-list-fault, list-fault-stops, listed-outcome}
 use Rattle.grammar.specs.Books.{RuleBook, a-book}
 use Rattle.grammar.proofs.FewFields.{book-countable, certificate-countable}
 use Rattle.books.specs.Counts.{start}
-use Rattle.layout.specs.Files.{Opened, good, bad, refusal-at, ends-at, closed-bytes, open-bytes, closed-list, open-list, certificate-of}
+use Rattle.layout.specs.Files.{good, bad, refusal-at, ends-at, closed-bytes, open-bytes, closed-list, open-list, certificate-of}
 use Rattle.layout.specs.FirstFaults.{Faulty}
 use Rattle.layout.proofs.RoundTrips.{bytes-packed, packed-opens}
 

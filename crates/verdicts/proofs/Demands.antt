@@ -19,7 +19,7 @@ use Rattle.grammar.specs.Limits.{BookFits}
 use Rattle.grammar.specs.Listing.{book-fields, certificate-fields}
 use Rattle.grammar.proofs.FixedBooks.{book-fixed}
 use Rattle.fields.specs.Faults.{Fault}
-use Rattle.layout.specs.Files.{Opened, good, bad, refusal-at, certificate-of, open-book, open-certificate}
+use Rattle.layout.specs.Files.{Opened, good, bad, certificate-of, open-book, open-certificate}
 use Rattle.layout.specs.FirstFaults.{Faulty}
 use Rattle.layout.proofs.RoundTrips.{bytes-packed}
 use Rattle.layout.proofs.FirstFaults.{bytes-first-fault}
