@@ -1,2 +1,5 @@
 -- The laws behind the contracts of this crate.
+pub mod Claims
+pub mod Placing
+pub mod Closings
 pub mod Certifying
