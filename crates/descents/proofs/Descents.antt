@@ -39,7 +39,7 @@ use Rattle.checking.proofs.Using.{rest-at}
 use Rattle.checking.proofs.Frames.{below-then, below-less, kept-below, known-below, scene-below, uses-below, tells-above}
 use Rattle.checking.proofs.Meanings.{call-means, left-means, left-itself, used-means}
 use Rattle.checking.proofs.Finding.{finds-fault, finds-last, finds-stop, finds-then, finds-ending}
-use Rattle.unfolds.proofs.Unfoldings.{named, finds-given, head-lies, calls-at, named-rule}
+use Rattle.unfolds.proofs.Naming.{named, finds-given, head-lies, calls-at, named-rule}
 
 -- ---- the parts of a descent
 

@@ -1,2 +1,4 @@
 -- The laws behind the contracts of this crate.
+pub mod Naming
+pub mod Calls
 pub mod Unfoldings

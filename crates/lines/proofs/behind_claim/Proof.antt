@@ -1,5 +1,5 @@
 -- `lines::behind_claim` meets its contract.
-use Rattle.lines.proofs.Certifying.{kind-unfold, kind-descent}
+use Rattle.lines.proofs.Claims.{kind-unfold, kind-descent}
 use borrow.Author.Needs.{needs}
 use Rattle.lines.proofs.behind_claim.Statement.{statement}
 use Rattle.lines.proofs.behind_claim.Tie as tie

@@ -1,5 +1,5 @@
 -- `lines::closing` meets its contract.
-use Rattle.lines.proofs.Certifying.{closing-at}
+use Rattle.lines.proofs.Closings.{closing-at}
 use borrow.Author.Needs.{needs}
 use Rattle.lines.proofs.closing.Statement.{statement}
 use Rattle.lines.proofs.closing.Tie as tie

@@ -1,6 +1,6 @@
 -- `lines::closing_by` meets its contract.
 use Rattle.layout.specs.Answers.{w-of}
-use Rattle.lines.proofs.Certifying.{closing-fault, closing-good}
+use Rattle.lines.proofs.Closings.{closing-fault, closing-good}
 use borrow.Author.Needs.{needs}
 use Rattle.lines.proofs.closing_by.Statement.{statement}
 use Rattle.lines.proofs.closing_by.Tie as tie

@@ -1,5 +1,5 @@
 -- `lines::closing_parts` meets its contract.
-use Rattle.lines.proofs.Certifying.{closing-empty, closing-loop}
+use Rattle.lines.proofs.Closings.{closing-empty, closing-loop}
 use borrow.Author.Needs.{needs}
 use Rattle.lines.proofs.closing_parts.Statement.{statement}
 use Rattle.lines.proofs.closing_parts.Tie as tie

@@ -1,5 +1,5 @@
 -- `lines::line` meets its contract.
-use Rattle.lines.proofs.Certifying.{line-at}
+use Rattle.lines.proofs.Claims.{line-at}
 use borrow.Author.Needs.{needs}
 use Rattle.lines.proofs.line.Statement.{statement}
 use Rattle.lines.proofs.line.Tie as tie

@@ -1,5 +1,5 @@
 -- `lines::note_line` meets its contract.
-use Rattle.lines.proofs.Certifying.{notes-line}
+use Rattle.lines.proofs.Claims.{notes-line}
 use lib.ListN.{length-set}
 use native.Mathlib.Omega.{arith}
 use borrow.Author.Needs.{needs}

@@ -1,5 +1,5 @@
 -- `unfolds::behind_stop` meets its contract.
-use Rattle.unfolds.proofs.Unfoldings.{stays-pending, stays-none}
+use Rattle.unfolds.proofs.Calls.{stays-pending, stays-none}
 use Rattle.unfolds.proofs.behind_stop.Statement.{statement}
 use Rattle.unfolds.proofs.behind_stop.Tie as tie
 

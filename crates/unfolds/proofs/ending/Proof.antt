@@ -1,5 +1,5 @@
 -- `unfolds::ending` meets its contract.
-use Rattle.unfolds.proofs.Unfoldings.{ends-fault, ends-good}
+use Rattle.unfolds.proofs.Calls.{ends-fault, ends-good}
 use borrow.Author.Needs.{needs}
 use Rattle.unfolds.proofs.ending.Statement.{statement}
 use Rattle.unfolds.proofs.ending.Tie as tie

@@ -1,5 +1,5 @@
 -- `unfolds::last` meets its contract.
-use Rattle.unfolds.proofs.Unfoldings.{ends-here, ends-there}
+use Rattle.unfolds.proofs.Calls.{ends-here, ends-there}
 use borrow.Author.Needs.{needs}
 use Rattle.unfolds.proofs.last.Statement.{statement}
 use Rattle.unfolds.proofs.last.Tie as tie

@@ -1,5 +1,5 @@
 -- `unfolds::last_by` meets its contract.
-use Rattle.unfolds.proofs.Unfoldings.{ends-early, ends-by}
+use Rattle.unfolds.proofs.Calls.{ends-early, ends-by}
 use borrow.Author.Needs.{needs}
 use Rattle.unfolds.proofs.last_by.Statement.{statement}
 use Rattle.unfolds.proofs.last_by.Tie as tie

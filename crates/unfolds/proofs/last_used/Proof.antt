@@ -1,5 +1,5 @@
 -- `unfolds::last_used` meets its contract.
-use Rattle.unfolds.proofs.Unfoldings.{ends-used}
+use Rattle.unfolds.proofs.Calls.{ends-used}
 use borrow.Author.Needs.{needs}
 use Rattle.unfolds.proofs.last_used.Statement.{statement}
 use Rattle.unfolds.proofs.last_used.Tie as tie

@@ -1,5 +1,5 @@
 -- `unfolds::part_by` meets its contract.
-use Rattle.unfolds.proofs.Unfoldings.{part-by}
+use Rattle.unfolds.proofs.Calls.{part-by}
 use borrow.Author.Needs.{needs}
 use Rattle.unfolds.proofs.part_by.Statement.{statement}
 use Rattle.unfolds.proofs.part_by.Tie as tie

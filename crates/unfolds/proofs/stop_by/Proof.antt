@@ -1,5 +1,5 @@
 -- `unfolds::stop_by` meets its contract.
-use Rattle.unfolds.proofs.Unfoldings.{stops-by}
+use Rattle.unfolds.proofs.Calls.{stops-by}
 use borrow.Author.Needs.{needs}
 use Rattle.unfolds.proofs.stop_by.Statement.{statement}
 use Rattle.unfolds.proofs.stop_by.Tie as tie

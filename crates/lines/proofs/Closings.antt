@@ -1,0 +1,131 @@
+-- Both parts of a closing, and its verdict.
+use Prim.Native.Nat.{ℕ, _+_}
+use mathlib.Core.Path.{_≡_, refl, sym, subst, ap, _∙_}
+use mathlib.Core.List.{List, [], _∷_}
+use mathlib.Core.Option.{none, some, Option·none-ne-some}
+use native.Mathlib.Omega.{arith}
+use lib.ListN.{getD, getElem?}
+use Rattle.patterns.specs.Term.{fill}
+use Rattle.patterns.specs.Refusal.{closing-place}
+use Rattle.patterns.specs.First.{Exp, Pace, one, from, to}
+use Rattle.patterns.specs.Edition.{reindex}
+use Rattle.patterns.specs.Derive.{Book}
+use Rattle.patterns.specs.Certificate.{by, Claim, Mark, Closing}
+use Rattle.patterns.specs.Demand.{Met, present}
+use Rattle.patterns.specs.Judge.{check, compare, loop-checks, closing-checks, accept, refuse}
+use Rattle.grammar.specs.Listing.{closing-fields}
+use Rattle.layout.specs.Carried.{carried}
+use Rattle.verdicts.specs.Verdicts.{paper}
+use Rattle.verdicts.proofs.Parted.{parted-closing}
+use Rattle.verdicts.specs.declared.Verdict.{Verdict as Ruling}
+use Rattle.checking.specs.declared.Read.{Read}
+use Rattle.checking.specs.declared.Found.{Found}
+use Rattle.checking.specs.declared.Found.the-variants.{Fault, Good}
+use Rattle.checking.specs.declared.Kind.the-variants.{Closing as AtClosing}
+use Rattle.checking.specs.declared.Subject.{Subject}
+use Rattle.checking.specs.declared.Subject.the-variants.{Empty, Used}
+use Rattle.checking.specs.declared.Behind.the-variants.{Nothing}
+use Rattle.instances.specs.Fillings.{Fills as Tells}
+use Rattle.fillings.specs.Listings.{Lists}
+use Rattle.checking.specs.Placed.{Takes, RightAt, ClaimAt}
+use Rattle.checking.specs.Known.{Known}
+use Rattle.checking.specs.Subjects.{Means, PlainRight}
+use Rattle.checking.specs.Found.{Finds}
+use Rattle.checking.specs.Asked.{asked-at, checks-of, end-of, Checks}
+use Rattle.lines.specs.Certificates.{pace-of, ClosingFound, ClosingBy, ClosingAt}
+use Rattle.checking.proofs.Using.{rest-at}
+use Rattle.checking.proofs.Frames.{below-less, kept-below, known-below, tells-below}
+use Rattle.checking.proofs.Meanings.{filled-means}
+use Rattle.checking.proofs.Finding.{fault-unmet, at-fault, at-good, finds-stop, finds-then}
+use Rattle.unfolds.proofs.Naming.{named, finds-given}
+use Rattle.lines.proofs.Placing.{fault-carried, closed-fault, closed-none}
+
+-- ---- the closing
+
+-- the claim that the closing names
+closed-claim : {book cert w ars : List ℕ} {B : Book Exp} {es : List (Claim Exp)} {line left right : ℕ} → left ≡ getD w (256 + line) 0
+    → right ≡ getD w (512 + line) 0 → Known book cert w ars B es → (n : ℕ) → n ≡ line → (l : Claim Exp) → getElem? es n ≡ some l
+    → ClaimAt cert ars left right l
+closed-claim {cert = cert} {w = w} {ars = ars} {left = left} {right = right} el er known n e l found =
+    let a : getD w (256 + n) 0 ≡ left = ap (λ j. getD w (256 + j) 0) e ∙ sym el in
+    let b : getD w (512 + n) 0 ≡ right = ap (λ j. getD w (512 + j) 0) e ∙ sym er in
+    subst (λ j. ClaimAt cert ars j right l) a (subst (λ j. ClaimAt cert ars (getD w (256 + n) 0) j l) b (known .claim n l found))
+
+module _ {book cert w v : List ℕ} {left right : ℕ} {r : Found} (first : Checks book cert AtClosing 0 right Nothing Empty Empty w v r) where
+  there-found : {ars : List ℕ} {B : Book Exp} {es : List (Claim Exp)} → Known book cert w ars B es → {l : Claim Exp} → ClaimAt cert ars left right l
+      → Finds (check 14 0 (present (l .right)) ∷ []) 0 r
+  unfolding asked-at checks-of end-of Means
+  there-found {ars} known here = first .told ars (known .arity) _ (here .right-at) none 0 (refl, refl) none 0 (refl, refl)
+
+  pub closing-empty : {line k α n p : ℕ} → left ≡ getD w (256 + line) 0 → right ≡ getD w (512 + line) 0 → r ≡ Fault n p
+      → ClosingFound book cert line k α w v (Fault n p)
+  unfolding closing-checks
+  closing-empty el er q = record {
+    told = λ ars B es known d e p filled small.
+        let n = named es (d .line) small in
+        (0, finds-given _ (n .found) (finds-stop _ (there-found known (closed-claim el er known (d .line) e (n .claim) (n .found))) q));
+    size = first .below .size;
+  }
+
+  module _ (k α : ℕ) {x : ℕ} {from-right : Subject} {after : List ℕ} {s : Found} (good : r ≡ Good x) (plain : PlainRight cert right 1 α from-right) (second : Checks book cert AtClosing 1 right Nothing from-right (Used left 1 (α + k)) v after s) where
+    loop-found : {ars : List ℕ} {B : Book Exp} {es : List (Claim Exp)} → Known book cert w ars B es → (d : Closing Exp Pace) → d .pace ≡ pace-of k α
+        → Tells book cert w 896 (by (d .fills)) → (l : Claim Exp) → ClaimAt cert ars left right l → (m : Mark Exp) → l .right ≡ m
+        → (end : ℕ) × Finds (loop-checks one l d m) end s
+    unfolding loop-checks from to asked-at checks-of end-of Met
+    loop-found {ars} {B} {es} known d p filled l here none q =
+        absurd (Option·none-ne-some _ (sym (at-good (there-found known here) good .0) ∙ fault-unmet _ [] (λ z. z q)))
+    loop-found {ars} {B} {es} known d p filled l here (some u) q =
+        let still = known-below (below-less (omega arith) (first .below)) known in
+        let right-at : RightAt cert ars right (some u) = subst (RightAt cert ars right) q (here .right-at) in
+        let o = plain .told book v ars B es still (some u) right-at in
+        let t = filled-means (d .fills) 1 (α + k) still (tells-below (omega arith) (first .below) filled) (here .left-at) in (
+          o .0,
+          subst (λ c. Finds (compare 15 1 (some (reindex one (1, c .α) u)) (some (fill (by (d .fills)) (reindex one (1, c .α + c .k) (l .left))))) (o .0) s) (sym p)
+              (second .told ars (known .arity) _ right-at _ _ (o .1) _ _ t),
+        )
+
+    pub closing-loop : {line : ℕ} → left ≡ getD w (256 + line) 0 → right ≡ getD w (512 + line) 0 → ClosingFound book cert line k α w after s
+    unfolding closing-checks
+    closing-loop el er = record {
+      told = λ ars B es known d e p filled small.
+          let n = named es (d .line) small in
+          let here = closed-claim el er known (d .line) e (n .claim) (n .found) in
+          let loop = loop-found known d p filled (n .claim) here (n .claim .right) refl in
+          (loop .0, finds-given _ (n .found) (finds-then (there-found known here) good (λ z. loop .1)));
+      size = second .below .size ∙ first .below .size;
+    }
+
+module _ {book cert w v : List ℕ} {line k α : ℕ} {f : Found} (found : ClosingFound book cert line k α w v f) where
+  pub closing-fault : {n p : ℕ} {r : Ruling} → f ≡ Fault n p → paper r ≡ refuse (carried n closing-place line p) → ClosingBy book cert line k α w v r
+  closing-fault {n} {p} q e = record {
+    told = λ ars B es known d i pc filled small.
+        let first = at-fault (found .told ars B es known d i pc filled small .1) q in
+        e ∙ ap (λ a. refuse (carried n closing-place a p)) (sym i)
+        ∙ ap refuse (fault-carried (closing-checks one es d) (parted-closing one es d) n p closing-place (d .line) first)
+        ∙ sym (closed-fault (d .line) (closing-checks one es d) n p d first);
+    size = found .size;
+  }
+
+  pub closing-good : {x : ℕ} {r : Ruling} → f ≡ Good x → paper r ≡ accept line (pace-of k α) → ClosingBy book cert line k α w v r
+  closing-good q e = record {
+    told = λ ars B es known d i p filled small.
+        e ∙ ap (λ a. accept a (pace-of k α)) (sym i) ∙ ap (accept (d .line)) (sym p)
+        ∙ sym (closed-none (d .line) (closing-checks one es d) d (at-good (found .told ars B es known d i p filled small .1) q .0));
+    size = found .size;
+  }
+
+pub closing-at : {book cert w v after : List ℕ} {at end : ℕ} {c d e : Read} {r : Ruling} → Takes cert 8 at c → Takes cert 12 (c .at) d → Takes cert 12 (d .at) e
+    → Lists book cert 896 (e .at) w v end → ClosingBy book cert (c .value) (d .value) (e .value) v after r → ClosingAt book cert at w after r
+unfolding closing-fields
+closing-at {book} {cert} {w} {v} {after} {at} {end} {c} {d} {e} tc td te f p = record {
+  told = λ ars B es known k fits lies.
+      let x = tc .told (k .line) _ lies in
+      let y = td .told (k .pace .k) _ (rest-at tc lies) in
+      let z = te .told (k .pace .α) _ (rest-at td (rest-at tc lies)) in
+      let g = f .told ars (known .arity) (k .fills) (fits .fills) (rest-at te (rest-at td (rest-at tc lies))) in
+      p .told ars B es (known-below (below-less (omega arith) (kept-below (f .kept))) known) k (sym (x .0)) (pace (k .pace) (sym (y .0)) (sym (z .0))) (g .0) (fits .line);
+  size = p .size ∙ f .kept .size;
+}
+  where
+    pace : (s : Pace) → s .k ≡ d .value → s .α ≡ e .value → s ≡ pace-of (d .value) (e .value)
+    pace s a b = λ i. record { k = a i; α = b i }
