@@ -1,6 +1,6 @@
 -- The arities that the code looks up are those that the walk has read.
-use Prim.Native.Nat.{ℕ, zero, suc, _+_, _*_, _<_, _≤_}
-use mathlib.Core.Path.{_≡_, refl, sym, _∙_, ap, subst, fun-ext}
+use Prim.Native.Nat.{ℕ, zero, suc, _+_, _*_, _<_}
+use mathlib.Core.Path.{_≡_, sym, _∙_, ap, subst, fun-ext}
 use mathlib.Core.List.{List, [], _∷_, flatMap}
 use mathlib.Core.Bool.{Bool}
 use native.Mathlib.Omega.{arith}

@@ -1,6 +1,6 @@
 -- What is asked at a part is looked at.
 use Prim.Native.Nat.{ℕ}
-use mathlib.Core.Path.{_≡_, refl, sym, subst, _∙_}
+use mathlib.Core.Path.{_≡_, sym, subst, _∙_}
 use mathlib.Core.List.{List}
 use Rattle.patterns.specs.Certificate.{Mark}
 use Rattle.patterns.specs.First.{Exp}

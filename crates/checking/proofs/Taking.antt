@@ -9,7 +9,6 @@ use Rattle.bits.specs.declared.Field.{Field}
 use Rattle.bits.specs.declared.Field.the-variants.{Got, Past}
 use Rattle.bits.proofs.Bytes.{bits-lt}
 use Rattle.bits.proofs.Fitting.{read-got}
-use Rattle.grammar.specs.Listing.{Fields}
 use Rattle.checking.specs.Placed.{Takes}
 use Rattle.instances.proofs.Lying.{lies-first}
 

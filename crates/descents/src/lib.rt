@@ -6,7 +6,6 @@ use checking::Kind;
 use checking::Subject;
 ghost use Prim.Native.Nat.{_≤_};
 ghost use lib.ListN.{length};
-ghost use Rattle.unfolds.specs.Unfoldings.{Parts};
 ghost use Rattle.descents.specs.Descents.{DescentBase, DescentHead, DescentCall, LevelRight, DescentBy, DescentOn, DescentAt};
 
 // Parts 0 and 1 of a descent: its base, by a use that was read.

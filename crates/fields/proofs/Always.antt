@@ -12,9 +12,9 @@ use Rattle.fields.proofs.Seqs.{found}
 use Rattle.fields.specs.declared.Field.{Field}
 use Rattle.fields.specs.declared.Field.the-variants.{Got, Bad}
 use Rattle.fields.specs.Source.{Source}
-use Rattle.fields.specs.Kinds.{Kind, bits, Range, from-to, test}
+use Rattle.fields.specs.Kinds.{Kind, bits, from-to, test}
 use Rattle.fields.specs.Grammar.{Grammar, done, ask, bind, field, look, onField, tested}
-use Rattle.fields.specs.Run.{State, state, passed, Result, run, Ran}
+use Rattle.fields.specs.Run.{State, state, passed, run, Ran}
 use Rattle.fields.specs.Run.Result.{ok, no}
 
 unfoldable pub Always : {A : Type 0} → (A → Type 0) → Grammar A → Type 0

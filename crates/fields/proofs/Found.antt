@@ -10,7 +10,7 @@ use Rattle.bits.specs.Written.{Narrow}
 use Rattle.fields.specs.declared.Cursor.{Cursor}
 use Rattle.fields.specs.declared.Field.the-variants.{Got}
 use Rattle.fields.specs.Source.{Source, onward, from}
-use Rattle.fields.specs.Kinds.{Kind, bits, Range, test}
+use Rattle.fields.specs.Kinds.{bits}
 use Rattle.fields.specs.Grammar.{Grammar, done, ask, look, Outcome, outcome, trace}
 use Rattle.fields.specs.Grammar.Outcome.{ok}
 use Rattle.fields.specs.Spells.{Spells}

@@ -1,6 +1,6 @@
 -- Where a grammar is led by fields that stand in a source, and why it stops there.
 use Prim.Native.Nat.{ℕ, _*_, _^_, _≤_, _<_}
-use mathlib.Core.Path.{_≡_, refl, sym, ap, _∙_, subst}
+use mathlib.Core.Path.{_≡_, ap, _∙_, subst}
 use mathlib.Core.List.{List, [], _∷_}
 use mathlib.Core.Option.{none, some}
 use native.Mathlib.Omega.{arith}
@@ -11,7 +11,7 @@ use Rattle.fields.specs.declared.Cursor.{Cursor}
 use Rattle.fields.specs.declared.Field.the-variants.{Got, Bad}
 use Rattle.fields.specs.Source.{Source, onward}
 use Rattle.fields.specs.Kinds.{Kind, bits, Range, test}
-use Rattle.fields.specs.Grammar.{Grammar, done, ask, look, Outcome, outcome, trace}
+use Rattle.fields.specs.Grammar.{Grammar, done, ask, look, outcome, trace}
 use Rattle.fields.specs.Grammar.Outcome.{ok, no}
 use Rattle.fields.specs.Faults.{Keeps, Led, here, past}
 use Rattle.fields.proofs.Ranges.{passes-exactly, test-look}

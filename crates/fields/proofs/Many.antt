@@ -7,7 +7,7 @@ use native.Mathlib.Omega.{arith}
 use lib.ListN.{length}
 use Rattle.fields.specs.declared.Cursor.{Cursor}
 use Rattle.fields.specs.declared.Walk.{Walk}
-use Rattle.fields.specs.declared.Walk.the-variants.{On, No}
+use Rattle.fields.specs.declared.Walk.the-variants.{On}
 use Rattle.fields.specs.Source.{Source}
 use Rattle.fields.specs.Grammar.{Grammar, done, bind}
 use Rattle.fields.specs.Run.{Ran}

@@ -1,6 +1,6 @@
 -- A run over bytes or a list is refused with 3, 4, 5 or 6 only.
 use Prim.Native.Nat.{ℕ, _≤_}
-use mathlib.Core.Path.{_≡_, refl, sym, _∙_}
+use mathlib.Core.Path.{_≡_}
 use mathlib.Core.List.{List}
 use mathlib.Core.Bool.{Bool, true, false, cond}
 use mathlib.Core.Option.{Option, some}
@@ -14,8 +14,8 @@ use Rattle.fields.specs.declared.Cursor.{Cursor}
 use Rattle.fields.specs.declared.Field.{Field}
 use Rattle.fields.specs.declared.Field.the-variants.{Got, Bad}
 use Rattle.fields.specs.Source.{from, fieldAt, inReach, listedField, packedField, ofBits}
-use Rattle.fields.specs.Kinds.{Kind, bits, Range, test, spent}
-use Rattle.fields.specs.Grammar.{Grammar, look, Outcome, outcome}
+use Rattle.fields.specs.Kinds.{bits, Range, test, spent}
+use Rattle.fields.specs.Grammar.{Grammar, outcome}
 use Rattle.fields.specs.Grammar.Outcome.{no}
 use Rattle.fields.proofs.Ranges.{Met, met}
 use Rattle.fields.proofs.Ranges.Met.{good, outside, unnormal, too-many}

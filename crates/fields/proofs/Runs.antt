@@ -1,24 +1,20 @@
 -- How a run goes: a field, and one grammar after the other.
 use mathlib.Core.Path.{_≡_, refl, sym, ap, _∙_}
 use mathlib.Core.List.{List}
-use mathlib.Core.Option.{Option, none, some}
-use mathlib.Core.Bool.{cond}
+use mathlib.Core.Option.{none, some}
 use Prim.Native.Nat.{ℕ, _<_, _≤_}
-use native.Mathlib.Omega.{arith}
 use lib.ListN.{set}
 use Rattle.bits.specs.Put.{putField}
 use Rattle.fields.specs.declared.Cursor.{Cursor}
 use Rattle.fields.specs.declared.Field.{Field}
 use Rattle.fields.specs.declared.Field.the-variants.{Got, Bad}
-use Rattle.fields.specs.declared.Walk.{Walk}
 use Rattle.fields.specs.declared.Walk.the-variants.{On, No}
 use Rattle.fields.specs.Source.{Source, onward, from, fieldAt}
 use Rattle.fields.specs.Kinds.{Kind, bits, Range, test, within, Bounded}
-use Rattle.fields.specs.Grammar.{Grammar, done, ask, field, look}
+use Rattle.fields.specs.Grammar.{field, look}
 use Rattle.fields.proofs.Gives.{got-small}
 use Rattle.fields.proofs.Ranges.{within-low, within-high, within-ok, look-open}
-use Rattle.fields.specs.Run.{State, state, passed, Result, run, Shown, shown, Ran, Took}
-use Rattle.fields.specs.Run.Result.{ok, no}
+use Rattle.fields.specs.Run.{run, Ran, Took}
 
 -- ---- a field
 

@@ -1,5 +1,4 @@
 -- What fields that spell a tree are: values that fit their widths, of 1 to 16 bits each.
-use mathlib.Core.Path.{_≡_}
 use mathlib.Core.List.{List, [], _∷_}
 use Prim.Native.Nat.{ℕ, _<_, _≤_}
 use native.Mathlib.Omega.{arith}

@@ -1,7 +1,7 @@
 -- Where fields come from: bytes, in which they are packed, or a list of numbers, one for each field.
 use Prim.Native.Nat.{ℕ, _+_, _^_}
 use mathlib.Core.List.{List}
-use mathlib.Core.Bool.{Bool, true, false, _&&_, cond}
+use mathlib.Core.Bool.{Bool, _&&_, cond}
 use lib.ListN.{length, getD}
 use lib.Dec.{ltb, leb}
 use Rattle.bits.specs.Bits.{readField}

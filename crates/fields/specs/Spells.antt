@@ -2,7 +2,7 @@
 use Prim.Native.Nat.{ℕ, _<_, _^_}
 use mathlib.Core.Path.{_≡_}
 use mathlib.Core.List.{List, [], _∷_}
-use mathlib.Core.Option.{Option, none}
+use mathlib.Core.Option.{none}
 use Rattle.fields.specs.Kinds.{bits, test}
 use Rattle.fields.specs.Grammar.{Grammar, done, ask}
 

@@ -12,7 +12,7 @@ use Rattle.patterns.specs.Every.{Every}
 use Rattle.patterns.specs.First.{Exp, Pair, Pace}
 use Rattle.patterns.specs.Certificate.{Fills, Use, Stop, fact, call, Kind, unfolds, descends, Certificate}
 use Rattle.patterns.specs.Checks.{OnMark}
-use Rattle.fields.specs.Kinds.{any, from-to, one-call, InRange, Unnormal, Spent}
+use Rattle.fields.specs.Kinds.{any, one-call, InRange, Unnormal, Spent}
 use Rattle.fields.specs.Kinds.{Kind as kind}
 use Rattle.fields.proofs.Ranges.{passes-exactly}
 use Rattle.fields.specs.Grammar.{done, bind, field}

@@ -11,7 +11,7 @@ use Rattle.patterns.specs.Normal.{Over, Normal, Normal*}
 use Rattle.patterns.specs.Formed.{arguments, Formed, Formed*}
 use Rattle.patterns.specs.Every.{Every}
 use Rattle.patterns.specs.First.{Exp, ex, Pattern, exponents}
-use Rattle.fields.specs.Kinds.{any, from-to, applied, unary, beside, node, InRange, Unnormal, Spent}
+use Rattle.fields.specs.Kinds.{applied, unary, beside, node, InRange, Unnormal, Spent}
 use Rattle.fields.specs.Kinds.{Kind as kind}
 use Rattle.fields.proofs.Ranges.{passes-exactly}
 use Rattle.fields.specs.Grammar.{Grammar, done, bind, field}
@@ -20,7 +20,7 @@ use Rattle.grammar.specs.Terms.{a-symbol, a-unary, an-exponent, Grown, G
 use Rattle.grammar.specs.Books.{arity-in}
 use Rattle.grammar.specs.Limits.{Ranged, Ranged*, TermFits, Rooted, RootFits}
 use Rattle.grammar.specs.Listing.{Fields, term-fields, terms-fields}
-use Rattle.grammar.proofs.Exactness.{Exactly, refit, same, field-exactly, any-exactly as bits-exactly, from-to-exactly, done-exactly, made, after, both}
+use Rattle.grammar.proofs.Exactness.{Exactly, refit, field-exactly, any-exactly as bits-exactly, from-to-exactly, done-exactly, made, after, both}
 
 -- ---- the arities
 

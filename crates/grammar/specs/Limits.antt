@@ -1,16 +1,16 @@
 -- The trees within 01's limits, stated without the grammar.
-use Prim.Native.Nat.{ℕ, suc, _+_, _<_, _≤_}
+use Prim.Native.Nat.{ℕ, _+_, _<_, _≤_}
 use mathlib.Core.Path.{_≡_}
 use mathlib.Core.List.{List, [], _∷_, map}
 use mathlib.Core.Option.{Option, none, some}
 use lib.ListN.{length, getElem?}
-use Rattle.patterns.specs.Term.{Term, Terms, var, fun, pow, nil, cons, size}
+use Rattle.patterns.specs.Term.{Terms, var, fun, pow, nil, cons, size}
 use Rattle.patterns.specs.Normal.{Normal}
 use Rattle.patterns.specs.Formed.{Formed}
 use Rattle.patterns.specs.Every.{Every}
 use Rattle.patterns.specs.Derive.{Rule, Book}
 use Rattle.patterns.specs.First.{Exp, Pattern, Pair, Pace, exponents}
-use Rattle.patterns.specs.Certificate.{Fills, Mark, Claim, Use, Stop, fact, call, Kind, unfolds, descends, Line, Closing, Certificate}
+use Rattle.patterns.specs.Certificate.{Fills, Claim, Use, Stop, fact, call, Kind, unfolds, descends, Line, Closing, Certificate}
 use Rattle.patterns.specs.Checks.{OnMark}
 use Rattle.grammar.specs.Books.{RuleBook, arity-in}
 

@@ -1,6 +1,6 @@
 -- 01's "Packed layout" as a table: the range that is stated for each kind of field. What a range is refused with, and when, is told by
 -- `InRange` (4), `Unnormal` (5) and `Spent` (6) in `fields/specs/Kinds`; 3 can be given at every field.
-use Prim.Native.Nat.{ℕ, _+_, _-_, _≤_, min}
+use Prim.Native.Nat.{ℕ, _+_, _-_, min}
 use mathlib.Core.List.{List}
 use Rattle.fields.specs.Kinds.{Kind, Range, any, from-to, applied, unary, beside, one-call, node}
 use Rattle.fields.specs.Kinds.{Kind as kind}

@@ -1,6 +1,6 @@
 -- The grammar of terms and fillings. 01, "Packed layout": "Term", "Filling".
 use Prim.Native.Nat.{ℕ, zero, suc, _+_, _-_}
-use mathlib.Core.List.{List, [], _∷_}
+use mathlib.Core.List.{[], _∷_}
 use mathlib.Core.Bool.{cond}
 use lib.Dec.{eqb}
 use Rattle.patterns.specs.Term.{Terms, var, fun, pow, nil, cons}

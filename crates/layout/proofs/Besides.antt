@@ -1,7 +1,7 @@
 -- A certificate beside its book: the arities that are looked up in the book's bytes, and the calls that were noted.
 use Prim.Native.Nat.{ℕ, _<_}
 use mathlib.Core.Path.{_≡_, refl, sym, _∙_, ap, subst, fun-ext}
-use mathlib.Core.List.{List, [], map}
+use mathlib.Core.List.{List, []}
 use mathlib.Core.Bool.{false}
 use native.Mathlib.Omega.{arith}
 use lib.ListN.{length, take, length-map}
@@ -9,7 +9,7 @@ use Rattle.patterns.specs.Refusal.{book-place}
 use Rattle.fields.specs.declared.Cursor.{Cursor}
 use Rattle.fields.specs.declared.Walk.{Walk}
 use Rattle.fields.specs.Source.{Source, from, fieldAt}
-use Rattle.fields.specs.Grammar.{outcome, done, bind}
+use Rattle.fields.specs.Grammar.{outcome}
 use Rattle.fields.specs.Grammar.Outcome.{ok}
 use Rattle.fields.specs.Run.{Ran}
 use Rattle.fields.proofs.Binds.{bind-parts}
@@ -23,10 +23,10 @@ use Rattle.books.specs.Counts.{start}
 use Rattle.books.proofs.Lookup.{arity-known}
 use Rattle.layout.specs.declared.Opening.{Opening}
 use Rattle.layout.specs.declared.Opening.the-variants.{Open}
-use Rattle.layout.specs.Files.{good, open-bytes, certificate-of, open-book}
+use Rattle.layout.specs.Files.{certificate-of, open-book}
 use Rattle.layout.specs.Openings.{BookOpened, Beside}
 use Rattle.layout.proofs.Answering.{opening-good}
-use Rattle.layout.proofs.Opens.{InBytes, in-bytes, book-fits}
+use Rattle.layout.proofs.Opens.{in-bytes, book-fits}
 
 -- the part of the notes that a good book fills
 module _ {s counts : List ℕ} {r : Opening} {m n k : ℕ} (h : BookOpened s r counts) (e : r ≡ Open m n k) where

@@ -5,9 +5,8 @@ use mathlib.Core.Bool.{Bool, true, false, _&&_, cond}
 use native.Mathlib.Omega.{arith}
 use borrow.Author.Tests.{le-leb, lt-leb}
 use lib.Dec.{leb}
-use Rattle.patterns.specs.Refusal.{Refusal}
 use Rattle.layout.specs.Files.{refusal-at}
-use Rattle.layout.specs.Carried.{of-a-field, of-a-part, carried, Carries}
+use Rattle.layout.specs.Carried.{of-a-field, of-a-part, carried}
 use Rattle.fields.proofs.Refusing.{Few}
 
 and-false : (b : Bool) → (b && false) ≡ false

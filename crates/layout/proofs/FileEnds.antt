@@ -1,8 +1,8 @@
 -- How the end of a file is looked at, and what a walk over a whole file comes to.
-use Prim.Native.Nat.{ℕ, _+_, _-_, _*_, _/_, _<_, _≤_, _^_, min}
+use Prim.Native.Nat.{ℕ, _+_, _-_, _*_, _/_, _≤_}
 use mathlib.Core.Path.{_≡_, refl, sym, _∙_, ap, ap₂, subst}
 use mathlib.Core.List.{List, []}
-use mathlib.Core.Bool.{Bool, true, false, _&&_, cond}
+use mathlib.Core.Bool.{Bool, true, false, cond}
 use mathlib.Core.Logic.{_≢_}
 use native.Mathlib.Omega.{arith}
 use borrow.Author.Tests.{eq-eqb, ne-eqb}
@@ -16,21 +16,21 @@ use Rattle.bits.proofs.Fitting.{read-yes}
 use Rattle.fields.specs.declared.Cursor.{Cursor}
 use Rattle.fields.specs.declared.Walk.{Walk}
 use Rattle.fields.specs.declared.Walk.the-variants.{On, No}
-use Rattle.fields.specs.Source.{Source, from}
+use Rattle.fields.specs.Source.{from}
 use Rattle.fields.specs.Grammar.{Grammar, Outcome, outcome, trace}
 use Rattle.fields.specs.Grammar.Outcome.{ok, no}
-use Rattle.fields.specs.Run.{state, Result, run, Shown, shown, Ran}
+use Rattle.fields.specs.Run.{Shown, shown, Ran}
 use Rattle.fields.proofs.Sinks.{sets, puts, sunk, run-sunk}
 use Rattle.fields.proofs.Found.{end-room}
 use Rattle.fields.proofs.Trips.{end-bit, end-n}
 use Rattle.books.specs.Counts.{start}
-use Rattle.layout.specs.Files.{Opened, good, bad, refusal-at, ends-at, closed-bytes, open-bytes, closed-list, open-list}
+use Rattle.layout.specs.Files.{good, bad, refusal-at, ends-at, closed-bytes, open-bytes, closed-list, open-list}
 use Rattle.layout.specs.declared.Place.{Place}
 use Rattle.layout.specs.declared.Opening.the-variants.{Open, Shut}
 use Rattle.layout.specs.declared.Refusal.{Refusal as Fault}
 use Rattle.layout.specs.Carried.{of-a-field, carried}
 use Rattle.layout.specs.Answers.{w-of, paper-refusal}
-use Rattle.layout.specs.Openings.{Sight, sees, shut, sight, seen, seen-bytes, seen-list, bits-of}
+use Rattle.layout.specs.Openings.{sees, shut, sight, seen, seen-bytes, seen-list, bits-of}
 use Rattle.fields.proofs.Refusing.{refused-few}
 use Rattle.layout.proofs.Carrying.{field-carried}
 

@@ -1,5 +1,5 @@
 -- Files that keep the layout and trees within the limits correspond one to one.
-use Prim.Native.Nat.{ℕ, _≤_, _^_}
+use Prim.Native.Nat.{ℕ, _≤_}
 use mathlib.Core.Path.{_≡_, refl, sym, _∙_, ap, subst}
 use mathlib.Core.List.{List, [], append-nil}
 use mathlib.Core.Bool.{false}
@@ -11,7 +11,6 @@ use Rattle.bits.proofs.PackedFields.{length-packed, packed-reads}
 use Rattle.patterns.specs.Refusal.{book-place, certificate-place}
 use Rattle.patterns.specs.First.{Exp, Pair, Pace}
 use Rattle.patterns.specs.Certificate.{Certificate}
-use Rattle.fields.specs.Source.{from}
 use Rattle.fields.specs.Grammar.{Grammar}
 use Rattle.fields.specs.Spells.{Spells}
 use Rattle.fields.proofs.Spelled.{spells-sized, spells-narrow, spells-few}
@@ -22,8 +21,8 @@ use Rattle.grammar.specs.Limits.{BookFits, CertificateFits}
 use Rattle.grammar.specs.Listing.{book-fields, certificate-fields}
 use Rattle.grammar.proofs.BookFields.{book-exactly}
 use Rattle.grammar.proofs.CertificateFields.{certificate-exactly}
-use Rattle.layout.specs.Files.{Opened, good, open-bytes, certificate-of, open-book, open-certificate}
-use Rattle.layout.proofs.Opens.{in-bytes, book-fits}
+use Rattle.layout.specs.Files.{good, open-bytes, certificate-of, open-book, open-certificate}
+use Rattle.layout.proofs.Opens.{in-bytes}
 use Rattle.layout.proofs.RoundTrips.{bytes-packed, packed-opens}
 
 -- what a good file's fields spell

@@ -1,6 +1,6 @@
 -- A good file: its outcome, its fields, and what was noted of a book.
-use Prim.Native.Nat.{ℕ, _+_, _<_, _≤_}
-use mathlib.Core.Path.{_≡_, refl, sym, _∙_, ap, subst}
+use Prim.Native.Nat.{ℕ, _+_, _≤_}
+use mathlib.Core.Path.{_≡_, refl, sym, _∙_, ap}
 use mathlib.Core.List.{List, [], _∷_, _++_, map}
 use mathlib.Core.Bool.{Bool, true, false, cond}
 use native.Mathlib.Omega.{arith}
@@ -14,7 +14,7 @@ use Rattle.fields.specs.declared.Walk.{Walk}
 use Rattle.fields.specs.Source.{from}
 use Rattle.fields.specs.Grammar.{Grammar, Outcome, outcome, trace}
 use Rattle.fields.specs.Grammar.Outcome.{ok, no}
-use Rattle.fields.specs.Run.{State, state, run, Ran}
+use Rattle.fields.specs.Run.{state, Ran}
 use Rattle.fields.proofs.Sinks.{values, sets, sets-first, run-ok}
 use Rattle.fields.proofs.Found.{trace-spells}
 use Rattle.grammar.specs.Books.{RuleBook, a-book}
@@ -23,9 +23,9 @@ use Rattle.grammar.proofs.BookFields.{book-exactly}
 use Rattle.books.specs.Counts.{noted, ruleCount, start, CountedBook}
 use Rattle.layout.specs.declared.Opening.{Opening}
 use Rattle.layout.specs.declared.Place.the-variants.{Book}
-use Rattle.layout.specs.Files.{Opened, good, bad, refusal-at, ends-at, closed-bytes, open-bytes, closed-list, open-list, open-book}
+use Rattle.layout.specs.Files.{good, bad, refusal-at, ends-at, closed-bytes, open-bytes, closed-list, open-list, open-book}
 use Rattle.layout.specs.Answers.{w-of}
-use Rattle.layout.specs.Openings.{sight, seen, seen-bytes, BookOpened}
+use Rattle.layout.specs.Openings.{sight, seen-bytes, BookOpened}
 use Rattle.layout.proofs.FileEnds.{bytes-seen}
 
 -- ---- a good file in bytes, and one in a list

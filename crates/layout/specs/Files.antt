@@ -9,8 +9,7 @@ use Rattle.bits.specs.Packed.{bytesFor}
 use Rattle.patterns.specs.Refusal.{Refusal, book-place, certificate-place}
 use Rattle.patterns.specs.First.{Exp, Pair, Pace}
 use Rattle.patterns.specs.Certificate.{Certificate}
-use Rattle.fields.specs.declared.Cursor.{Cursor}
-use Rattle.fields.specs.Source.{Source, from}
+use Rattle.fields.specs.Source.{from}
 use Rattle.fields.specs.Grammar.{Grammar, Outcome, outcome, trace}
 use Rattle.fields.specs.Grammar.Outcome.{ok, no}
 use Rattle.grammar.specs.Books.{RuleBook, arity-in, a-book}

@@ -10,13 +10,13 @@ use lib.ListN.{getElem?}
 use Rattle.patterns.specs.Term.{Term, fill}
 use Rattle.patterns.specs.Every.{Every}
 use Rattle.patterns.proofs.Every.{every-first, every-rest, every-append, every-weaken, every-of-map, every-map}
-use Rattle.patterns.specs.Derive.{Rule, Book}
+use Rattle.patterns.specs.Derive.{Book}
 use Rattle.patterns.specs.Edition.{Edition, reindex, form, Same}
 use Rattle.patterns.specs.Certificate.{Fills, by, Mark, Claim, Use, Stop, fact, call, Kind, unfolds, descends, Line, Closing, Certificate, claim-of}
-use Rattle.patterns.specs.Checks.{Pending, OnMark, SameMark, instance, instance-mark, reindex-mark, Found, Stopped, Stops, Unfold, Descent, Checked, Lines, Closes, Good}
+use Rattle.patterns.specs.Checks.{Pending, SameMark, instance, instance-mark, reindex-mark, Stopped, Stops, Checked, Lines, Closes, Good}
 use Rattle.patterns.specs.Refusal.{Refusal, line-place, closing-place}
 use Rattle.patterns.specs.Demand.{Demand, small, same, empty, present, level, missing, Met, Fits, met?}
-use Rattle.patterns.specs.Judge.{Check, check, compare, given, pending, sole, parts, stops, line-checks, loop-checks, closing-checks, Placed, place, refusal, checks-from, checks, first-unmet, Verdict, accept, refuse, verdict, judge, Small, FirstBroken}
+use Rattle.patterns.specs.Judge.{Check, check, compare, given, pending, sole, parts, stops, line-checks, loop-checks, closing-checks, Placed, place, checks-from, checks, first-unmet, Verdict, accept, refuse, verdict, judge, Small, FirstBroken}
 
 sole-is : {E : Type 0} (vs : List (Term E)) (v : Term E) → sole vs ≡ some v → vs ≡ v ∷ []
 unfolding sole

@@ -6,7 +6,7 @@ use mathlib.Core.List.{List, [], _∷_, _++_, map}
 use mathlib.Core.Option.{Option, none, some}
 use lib.ListN.{getElem?}
 use Rattle.patterns.specs.Term.{Term, fill}
-use Rattle.patterns.specs.Derive.{Rule, Book}
+use Rattle.patterns.specs.Derive.{Book}
 use Rattle.patterns.specs.Edition.{Edition, reindex}
 use Rattle.patterns.specs.Certificate.{Fills, by, Mark, Claim, Use, Stop, fact, call, Kind, unfolds, descends, Line, Closing, Certificate}
 use Rattle.patterns.specs.Checks.{instance, instance-mark, reindex-mark}

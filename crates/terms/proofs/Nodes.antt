@@ -1,12 +1,12 @@
 -- The cases of the grammar of terms, as the code meets them, and that the allowance falls.
-use Prim.Native.Nat.{ℕ, zero, suc, _+_, _-_, _<_, _≤_}
-use mathlib.Core.Path.{_≡_, refl, sym, _∙_, ap, subst}
+use Prim.Native.Nat.{ℕ, zero, suc, _-_, _≤_}
+use mathlib.Core.Path.{_≡_, refl, subst}
 use mathlib.Core.List.{List}
 use mathlib.Core.Bool.{Bool, true, false, cond}
 use mathlib.Core.Option.{Option·some-ne-none}
 use mathlib.Core.Logic.{_≢_}
 use native.Mathlib.Omega.{arith}
-use borrow.Author.Tests.{eq-eqb, ne-eqb, eqb-false}
+use borrow.Author.Tests.{eq-eqb, ne-eqb}
 use lib.Dec.{eqb}
 use Rattle.fields.specs.declared.Cursor.{Cursor}
 use Rattle.fields.specs.declared.Walk.{Walk}
@@ -15,13 +15,13 @@ use Rattle.fields.specs.Source.{Source}
 use Rattle.patterns.specs.Term.{nil, cons}
 use Rattle.fields.specs.Kinds.{any, node}
 use Rattle.fields.specs.Kinds.{Kind as kind}
-use Rattle.fields.specs.Grammar.{Grammar, done, bind, field}
+use Rattle.fields.specs.Grammar.{Grammar, bind, field}
 use Rattle.fields.specs.Run.{state, Ran}
 use Rattle.fields.proofs.Rounds.{Rounds}
 use Rattle.fields.proofs.Seqs.{found, ran-spent}
 use Rattle.fields.proofs.Always.{Always, always-bind, always-then, always-run, always-weaken}
 use Rattle.grammar.specs.Terms.{Grown, GrownAll, a-symbol, a-raise, a-variable, an-applied, a-raised, a-node, a-term, args-of}
-use Rattle.terms.specs.Values.{leftOf, leftOfAll}
+use Rattle.terms.specs.Values.{leftOf}
 
 module _ {src : Source} (deep : ℕ) (ar : ℕ → ℕ) (end least above left : ℕ) {c : Cursor} {ws bs : List ℕ} where
   pub term-none : left ≡ 0 → Ran src (a-term deep ar end least above left) c ws bs leftOf (No 6 c) ws bs

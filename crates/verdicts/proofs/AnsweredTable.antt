@@ -8,7 +8,6 @@ use lib.ListN.{length}
 use lib.Dec.{eqb, ltb}
 use Rattle.bits.specs.Packed.{packed}
 use Rattle.patterns.specs.Refusal.{Refusal, book-place, certificate-place}
-use Rattle.fields.specs.declared.Cursor.{Cursor}
 use Rattle.fields.specs.Source.{from}
 use Rattle.fields.specs.Grammar.{Grammar, Outcome, outcome, trace}
 use Rattle.fields.specs.Grammar.Outcome.{ok, no}

@@ -7,7 +7,7 @@ use native.Mathlib.Omega.{arith}
 use lib.ListN.{length}
 use lib.Dec.{ltb}
 use Rattle.patterns.specs.Certificate.{Certificate}
-use Rattle.patterns.specs.Refusal.{Refusal, book-place, certificate-place, neither-place}
+use Rattle.patterns.specs.Refusal.{Refusal, book-place, certificate-place}
 use Rattle.patterns.specs.Judge.{Verdict, refuse, judge}
 use Rattle.patterns.specs.First.{Exp, Pair, Pace, one}
 use Rattle.patterns.proofs.Judged.{refuses-exactly}
@@ -15,12 +15,12 @@ use Rattle.grammar.specs.Books.{RuleBook}
 use Rattle.layout.specs.declared.Answer.{Answer}
 use Rattle.layout.specs.declared.Answer.the-variants.{Refused}
 use Rattle.layout.specs.declared.Refusal.{Refusal as Fault}
-use Rattle.layout.specs.Files.{Opened, good, bad, refusal-at, open-book, open-certificate}
+use Rattle.layout.specs.Files.{Opened, good, bad, open-book, open-certificate}
 use Rattle.layout.specs.Answers.{Given, paper-refusal, paper}
 use Rattle.layout.specs.Promises.{Answers, BookRead, BookWritten, CertificateRead, CertificateWritten}
 use Rattle.layout.proofs.OneFile.{book-file-fits, certificate-file-fits}
-use Rattle.verdicts.specs.Judging.{within, where-good, with-table, judging-certificate, judging-files, judging}
-use Rattle.verdicts.specs.Program.{book-length, unframed, judging-framed, judging-input}
+use Rattle.verdicts.specs.Judging.{where-good, with-table, judging-certificate, judging-files, judging}
+use Rattle.verdicts.specs.Program.{judging-framed, judging-input}
 use Rattle.verdicts.specs.InTable.{InTable}
 use Rattle.verdicts.proofs.InTable.{short-table-in-table, long-file-in-table, unframed-in-table}
 use Rattle.verdicts.proofs.CheckedTable.{broken-in-table}

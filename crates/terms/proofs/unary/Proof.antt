@@ -1,5 +1,5 @@
 -- `terms::unary` meets its contract.
-use mathlib.Core.Path.{refl, sym, _∙_}
+use mathlib.Core.Path.{sym, _∙_}
 use Rattle.fields.proofs.Sources.{got-near}
 use Rattle.terms.proofs.Symbols.{unary-bad, unary-not, unary-like, unary-in}
 use borrow.Author.Needs.{needs}
