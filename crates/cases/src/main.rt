@@ -1,9 +1,9 @@
 // Runs the packed vectors that standard input holds, and prints a line for each: its name, the answer, and the sum of
 // what the call left in the memory lent to it.
-use layout::Answer;
+use answers::Answer;
 use libc::STDIN_FILENO;
 use libc::STDOUT_FILENO;
-use verdicts::Verdict;
+use answers::Verdict;
 ghost use mathlib.Core.Path.{_≡_};
 ghost use Prim.Native.Nat.{_≤_};
 ghost use lib.ListN.{length};

@@ -4,10 +4,11 @@ use mathlib.Core.Path.{_≡_, sym, ap}
 use mathlib.Core.List.{List}
 use native.Mathlib.Omega.{arith}
 use lib.ListN.{length}
+use Rattle.answers.specs.Numbers.{Told, filled-with, refused-with}
 use Rattle.patterns.specs.First.{Pace}
 use Rattle.patterns.specs.Refusal.{Refusal}
 use Rattle.patterns.specs.Judge.{Verdict, accept, refuse}
-use Rattle.layout.specs.Answers.{Given, Told, filled-with, refused-with, told}
+use Rattle.layout.specs.Answers.{Given, told}
 use Rattle.verdicts.specs.Judging.{judging}
 use Rattle.embed.specs.Numbers.{refusal-numbers, answer-numbers, verdict-numbers}
 use Rattle.embed.specs.Promises.{FileTold, JudgeTold}

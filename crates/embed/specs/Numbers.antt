@@ -1,10 +1,10 @@
 -- An answer as five numbers.
 use Prim.Native.Nat.{ℕ}
 use mathlib.Core.List.{List, [], _∷_}
+use Rattle.answers.specs.Numbers.{Told, filled-with, refused-with}
 use Rattle.patterns.specs.First.{Pace}
 use Rattle.patterns.specs.Refusal.{Refusal}
 use Rattle.patterns.specs.Judge.{Verdict, accept, refuse}
-use Rattle.layout.specs.Answers.{Told, filled-with, refused-with}
 
 -- 01: "A refusal carries its number, W [..], A and B."
 unfoldable pub refusal-numbers : Refusal → List ℕ

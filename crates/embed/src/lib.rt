@@ -1,9 +1,9 @@
 // The judge, the readers and the writers, for C and Rust. An answer is told by five numbers. A refusal is 1, its
 // number, W, A and B. A verdict that accepts is 0, the line, k, α and 0; a file that was read or written is 0, how
 // many places were filled and three zeros.
-use layout::Answer;
-use layout::Refusal;
-use verdicts::Verdict;
+use answers::Answer;
+use answers::Refusal;
+use answers::Verdict;
 ghost use mathlib.Core.Path.{_≡_};
 ghost use Rattle.patterns.specs.Refusal.{book-place, certificate-place};
 ghost use Rattle.layout.specs.Answers.{
@@ -11,10 +11,8 @@ ghost use Rattle.layout.specs.Answers.{
   writing-book,
   reading-certificate,
   writing-certificate,
-  paper-refusal,
-  paper,
 };
-ghost use Rattle.verdicts.specs.Verdicts.{paper as paper-verdict};
+ghost use Rattle.answers.specs.Numbers.{paper-refusal, paper-verdict, paper-answer};
 ghost use Rattle.embed.specs.Numbers.{refusal-numbers, answer-numbers, verdict-numbers};
 ghost use Rattle.embed.specs.Promises.{FileTold, JudgeTold};
 
@@ -22,15 +20,15 @@ ghost use Rattle.embed.specs.Promises.{FileTold, JudgeTold};
 fn refusal_numbers(r: Refusal) -> [u64; 5]
     ensures { λ n. ⌜ n ≡ refusal-numbers (paper-refusal r) ⌝ }
 {
-    let place = r.place;
-    let w = verdicts::place_number(place) as u64;
+    let what = r.w;
+    let w = answers::w_number(what) as u64;
     let number = r.number as u64;
     [1, number, w, r.a as u64, r.b as u64]
 }
 
 // The numbers of what reading or writing answers.
 fn answer_numbers(said: Answer) -> [u64; 5]
-    ensures { λ n. ⌜ n ≡ answer-numbers (paper said) ⌝ }
+    ensures { λ n. ⌜ n ≡ answer-numbers (paper-answer said) ⌝ }
 {
     match said {
         Answer::Filled(n) => [0, n as u64, 0, 0, 0],

@@ -4,6 +4,7 @@ use mathlib.Core.Path.{_≡_, refl, sym, subst, _∙_}
 use mathlib.Core.Bool.{false}
 use mathlib.Core.List.{List, []}
 use native.Mathlib.Omega.{arith}
+use Rattle.answers.specs.Numbers.{paper-refusal, paper-verdict}
 use Rattle.bits.specs.Bits.{roomOf}
 use Rattle.bits.specs.Packed.{width, Reads}
 use Rattle.patterns.specs.Refusal.{book-place, certificate-place}
@@ -21,18 +22,16 @@ use Rattle.terms.specs.Values.{nothing}
 use Rattle.books.specs.Counts.{start}
 use Rattle.layout.specs.declared.Opening.{Opening}
 use Rattle.layout.specs.declared.Opening.the-variants.{Open, Shut}
-use Rattle.layout.specs.declared.Refusal.{Refusal as Fault}
+use Rattle.answers.specs.declared.Refusal.{Refusal as Fault}
 use Rattle.layout.specs.Files.{good, open-bytes, open-book, open-certificate, certificate-of}
-use Rattle.layout.specs.Answers.{paper-refusal}
 use Rattle.layout.specs.Openings.{Beside, CertificateOpened}
 use Rattle.layout.proofs.Opens.{in-bytes}
 use Rattle.layout.proofs.Answering.{opening-shut, opening-good}
 use Rattle.layout.proofs.Besides.{arities-known}
 use Rattle.instances.specs.Lying.{Lies}
 use Rattle.lines.specs.Certificates.{JudgesLines}
-use Rattle.verdicts.specs.Verdicts.{paper}
-use Rattle.verdicts.specs.declared.Verdict.{Verdict as Ruling}
-use Rattle.verdicts.specs.declared.Verdict.the-variants.{Refused}
+use Rattle.answers.specs.declared.Verdict.{Verdict as Ruling}
+use Rattle.answers.specs.declared.Verdict.the-variants.{Refused}
 use Rattle.verdicts.specs.Judging.{judging-certificate}
 use Rattle.verdicts.proofs.Layers.{certificate-refused, both-opened}
 
@@ -79,14 +78,14 @@ certificate-lies {s} {b} {K} {fs} f e =
 -- ---- the certificate beside its book
 
 module _ {book counts certificate : List ℕ} {o : Opening} (B : Beside book counts) (C : CertificateOpened book certificate o) where
-  pub certificate-shut : {r : Fault} → o ≡ Shut r → paper (Refused r) ≡ judging-certificate book certificate
-  unfolding paper
+  pub certificate-shut : {r : Fault} → o ≡ Shut r → paper-verdict (Refused r) ≡ judging-certificate book certificate
+  unfolding paper-verdict
   certificate-shut {r} e =
       sym (certificate-refused book certificate (B .tree) (B .fields) (B .opened) (paper-refusal r)
       (opening-shut nothing (open-certificate (B .tree) certificate) (C .told (B .tree) (B .fields) (B .opened)) e))
 
   pub certificate-judged : {v n k : ℕ} {w after : List ℕ} {r : Ruling} → o ≡ Open v n k → JudgesLines book certificate w after r
-      → paper r ≡ judging-certificate book certificate
+      → paper-verdict r ≡ judging-certificate book certificate
   certificate-judged e j =
       let g = opening-good nothing (open-certificate (B .tree) certificate) (C .told (B .tree) (B .fields) (B .opened)) e in
       let b = book-lies (B .opened) in

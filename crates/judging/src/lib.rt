@@ -1,55 +1,45 @@
 // The judge over bytes: over a book and a certificate, and over the program's input that holds both.
+use answers::Verdict;
+use answers::W;
 use layout::Opening;
-use layout::Place;
-use verdicts::Verdict;
 ghost use mathlib.Core.Path.{_≡_};
 ghost use Prim.Native.Nat.{_≤_, _<_};
 ghost use lib.ListN.{length, replicate};
 ghost use Rattle.table.specs.Answer.{Says};
-ghost use Rattle.layout.specs.Files.{refusal-at};
-ghost use Rattle.layout.specs.Answers.{w-of};
+ghost use Rattle.answers.specs.Numbers.{paper-verdict};
 ghost use Rattle.layout.specs.Openings.{Beside};
-ghost use Rattle.patterns.specs.Judge.{refuse};
-ghost use Rattle.verdicts.specs.Verdicts.{paper};
 ghost use Rattle.verdicts.specs.Judging.{judging-certificate, judging-files, refusal-one};
 ghost use Rattle.verdicts.specs.Program.{book-length, judging-framed};
 ghost use Rattle.judging.specs.Judged.{Judged, JudgedInput};
 
-// A refusal that names no place in a file.
-fn refused(number: u16, place: Place) -> Verdict
-    ensures { λ r. ⌜ paper r ≡ refuse (refusal-at number (w-of place) 0) ⌝ }
-{
-    Verdict::Refused(layout::carried(number, place, 0, 0))
-}
-
 // The certificate beside its good book: read to its end, then judged.
 fn judge_certificate(book: &[u8], counts: &[u8], certificate: &[u8], work: &mut [u64]) -> Verdict
     requires { ⌜ Beside (now book) (now counts) × (length (now certificate) ≤ 32768) × (8192 ≤ length (now work)) ⌝ }
-    ensures answered { λ r. ⌜ paper r ≡ judging-certificate (now (book .entry)) (now (certificate .entry)) ⌝ }
+    ensures answered { λ r. ⌜ paper-verdict r ≡ judging-certificate (now (book .entry)) (now (certificate .entry)) ⌝ }
     ensures lent { λ _. ⌜ length (now (work .exit)) ≡ length (now (work .entry)) ⌝ }
 {
     match layout::open_certificate(book, counts, certificate) {
         Opening::Shut(r) => Verdict::Refused(r),
-        Opening::Open(_, _, _) => lines::judge_lines(book, certificate, work),
+        Opening::Open { .. } => lines::judge_lines(book, certificate, work),
     }
 }
 
 // Both files: their lengths, the whole book, and the certificate beside it.
 fn judge_files(book: &[u8], certificate: &[u8], work: &mut [u64]) -> Verdict
     requires { ⌜ 8192 ≤ length (now work) ⌝ }
-    ensures answered { λ r. ⌜ paper r ≡ judging-files (now (book .entry)) (now (certificate .entry)) ⌝ }
+    ensures answered { λ r. ⌜ paper-verdict r ≡ judging-files (now (book .entry)) (now (certificate .entry)) ⌝ }
     ensures lent { λ _. ⌜ length (now (work .exit)) ≡ length (now (work .entry)) ⌝ }
 {
     if book.len() > 16384 {
-        return refused(2, Place::Book);
+        return Verdict::Refused(answers::whole(2, W::Book));
     }
     if certificate.len() > 32768 {
-        return refused(2, Place::Certificate);
+        return Verdict::Refused(answers::whole(2, W::Certificate));
     }
     let mut counts = [0u8; 256];
     match layout::open_book(book, &mut counts) {
         Opening::Shut(r) => Verdict::Refused(r),
-        Opening::Open(m, _, _) => judge_certificate(book, &counts[..m], certificate, work),
+        Opening::Open { value: m, .. } => judge_certificate(book, &counts[..m], certificate, work),
     }
 }
 
@@ -62,9 +52,9 @@ fn is_short(work: &[u64]) -> bool
 
 // Refusal 1. The work table is not touched.
 fn short_table() -> Verdict
-    ensures { λ r. ⌜ paper r ≡ refusal-one ⌝ }
+    ensures { λ r. ⌜ paper-verdict r ≡ refusal-one ⌝ }
 {
-    refused(1, Place::Neither)
+    Verdict::Refused(answers::whole(1, W::Neither))
 }
 
 // The verdict, with all numbers of the work table set to 0.
@@ -96,18 +86,18 @@ fn book_length(input: &[u8]) -> usize
 // The framing's refusals, which speak of neither file, then both files that the input holds.
 fn judge_framed(input: &[u8], work: &mut [u64]) -> Verdict
     requires { ⌜ 8192 ≤ length (now work) ⌝ }
-    ensures answered { λ r. ⌜ paper r ≡ judging-framed (now (input .entry)) ⌝ }
+    ensures answered { λ r. ⌜ paper-verdict r ≡ judging-framed (now (input .entry)) ⌝ }
     ensures lent { λ _. ⌜ length (now (work .exit)) ≡ length (now (work .entry)) ⌝ }
 {
     if input.len() > 49154 {
-        return refused(2, Place::Neither);
+        return Verdict::Refused(answers::whole(2, W::Neither));
     }
     if input.len() < 2 {
-        return refused(3, Place::Neither);
+        return Verdict::Refused(answers::whole(3, W::Neither));
     }
     let end = 2 + book_length(input);
     if input.len() < end {
-        return refused(3, Place::Neither);
+        return Verdict::Refused(answers::whole(3, W::Neither));
     }
     judge_files(&input[2..end], &input[end..], work)
 }

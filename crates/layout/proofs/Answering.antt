@@ -5,14 +5,16 @@ use mathlib.Core.List.{List, [], _∷_, _++_}
 use native.Mathlib.Omega.{arith}
 use borrow.Author.Tests.{lt-ltb, le-ltb}
 use lib.ListN.{length, drop}
+use Rattle.answers.specs.Carried.{refusal-at}
+use Rattle.answers.specs.Numbers.{filled-with, refused-with, paper-refusal, paper-answer}
 use Rattle.patterns.specs.Refusal.{Refusal}
-use Rattle.layout.specs.declared.Answer.{Answer}
-use Rattle.layout.specs.declared.Answer.the-variants.{Filled, Refused}
+use Rattle.answers.specs.declared.Answer.{Answer}
+use Rattle.answers.specs.declared.Answer.the-variants.{Filled, Refused}
 use Rattle.layout.specs.declared.Opening.{Opening}
 use Rattle.layout.specs.declared.Opening.the-variants.{Open, Shut}
-use Rattle.layout.specs.declared.Refusal.{Refusal as Fault}
-use Rattle.layout.specs.Files.{Opened, good, bad, refusal-at}
-use Rattle.layout.specs.Answers.{Given, gives, refuses, filled-with, refused-with, told, output, paper-refusal, paper}
+use Rattle.answers.specs.declared.Refusal.{Refusal as Fault}
+use Rattle.layout.specs.Files.{Opened, good, bad}
+use Rattle.layout.specs.Answers.{Given, gives, refuses, told, output}
 use Rattle.layout.specs.Promises.{Answers}
 use Rattle.layout.specs.Openings.{sight, seen}
 use Rattle.bits.specs.Packed.{width}
@@ -35,17 +37,17 @@ eight-case = refl
 -- ---- what is answered
 
 module _ (w : ℕ) (g : Given) (out : List ℕ) where
-  pub answers-refusal : (r : Answer) {q : Refusal} → g ≡ refuses q → paper r ≡ refused-with q → Answers w g out r out
+  pub answers-refusal : (r : Answer) {q : Refusal} → g ≡ refuses q → paper-answer r ≡ refused-with q → Answers w g out r out
   unfolding told output
   answers-refusal r e p = record { answered = p ∙ rw e; filled = rw e }
 
   -- a refusal that was handed on
   pub answers-shut : (q : Fault) → g ≡ refuses (paper-refusal q) → Answers w g out (Refused q) out
-  unfolding paper
+  unfolding paper-answer
   answers-shut q e = answers-refusal (Refused q) e refl
 
   pub answers-short : (r : Answer) {places : List ℕ} → g ≡ gives places → length out < length places
-      → paper r ≡ refused-with (refusal-at 8 w 0) → Answers w g out r out
+      → paper-answer r ≡ refused-with (refusal-at 8 w 0) → Answers w g out r out
   unfolding told output
   answers-short r {places} e h p =
       let short = lt-ltb (length out) (length places) h in
@@ -53,7 +55,7 @@ module _ (w : ℕ) (g : Given) (out : List ℕ) where
 
   pub answers-filled : {places after : List ℕ} {n : ℕ} → g ≡ gives places → length places ≤ length out → n ≡ length places
       → after ≡ places ++ drop (length places) out → Answers w g out (Filled n) after
-  unfolding told output paper
+  unfolding told output paper-answer
   answers-filled {places} e h p q =
       let room = le-ltb (length out) (length places) h in
       record { answered = ap filled-with p ∙ rw (e, room); filled = q ∙ rw (e, room) }

@@ -8,19 +8,20 @@ use borrow.Author.Tests.{le-ltb}
 use lib.ListN.{length, take, drop}
 use lib.Seq.{take-append-seam}
 use lib.Dec.{ltb}
-use Rattle.layout.specs.declared.Answer.{Answer}
-use Rattle.layout.specs.declared.Answer.the-variants.{Filled}
-use Rattle.layout.specs.Files.{refusal-at}
-use Rattle.layout.specs.Answers.{Given, gives, refuses, filled-with, refused-with, told, output, paper}
+use Rattle.answers.specs.Carried.{refusal-at}
+use Rattle.answers.specs.Numbers.{filled-with, refused-with, paper-answer}
+use Rattle.answers.specs.declared.Answer.{Answer}
+use Rattle.answers.specs.declared.Answer.the-variants.{Filled}
+use Rattle.layout.specs.Answers.{Given, gives, refuses, told, output}
 use Rattle.layout.specs.Promises.{Answers, BookRead, BookWritten, CertificateRead, CertificateWritten}
-use Rattle.layout.proofs.OneAnswer.{paper-tells}
+use Rattle.answers.proofs.Inverses.{answer-tells}
 use Rattle.layout.proofs.RoundTrips.{book-read-written, book-written-read, certificate-read-written, certificate-written-read}
 
 -- ---- one call, by its answer
 
 -- the places that were filled are what the operation gives
 filled-gives : {w n : ℕ} (g : Given) {before after : List ℕ} → Answers w g before (Filled n) after → g ≡ gives (take n after)
-unfolding paper told output
+unfolding paper-answer told output
 filled-gives {w} {n} (gives places) {before} {after} h = go (ltb (length before) (length places)) (h .answered) (h .filled)
   where
     go : (b : Bool) → filled-with n ≡ cond b (refused-with (refusal-at 8 w 0)) (filled-with (length places))
@@ -37,10 +38,10 @@ Fills places before r after = (r ≡ Filled (length places)) × (after ≡ place
 
 gives-fills : {w : ℕ} {g : Given} {places before after : List ℕ} {r : Answer} → g ≡ gives places
     → length places ≤ length before → Answers w g before r after → Fills places before r after
-unfolding paper told output
+unfolding paper-answer told output
 gives-fills {w} {g} {places} {before} {after} {r} e h k =
     let room = le-ltb (length before) (length places) h in
-    (paper-tells r (Filled (length places)) (k .answered ∙ rw (e, room)), k .filled ∙ rw (e, room))
+    (answer-tells r (Filled (length places)) (k .answered ∙ rw (e, room)), k .filled ∙ rw (e, room))
 
 -- ---- two calls
 

@@ -8,6 +8,8 @@ use native.Mathlib.Omega.{arith}
 use borrow.Author.Tests.{eq-eqb, ne-eqb}
 use lib.ListN.{length}
 use lib.Dec.{eqb}
+use Rattle.answers.specs.Carried.{refusal-at, of-a-field, carried}
+use Rattle.answers.specs.Numbers.{w-of, paper-refusal}
 use Rattle.bits.specs.declared.Field.{Field as Bits}
 use Rattle.bits.specs.declared.Field.the-variants.{Got, Past}
 use Rattle.bits.specs.Bits.{bitsAt, roomOf, readField}
@@ -24,15 +26,13 @@ use Rattle.fields.proofs.Sinks.{sets, puts, sunk, run-sunk}
 use Rattle.fields.proofs.Found.{end-room}
 use Rattle.fields.proofs.Trips.{end-bit, end-n}
 use Rattle.books.specs.Counts.{start}
-use Rattle.layout.specs.Files.{good, bad, refusal-at, ends-at, closed-bytes, open-bytes, closed-list, open-list}
-use Rattle.layout.specs.declared.Place.{Place}
+use Rattle.layout.specs.Files.{good, bad, ends-at, closed-bytes, open-bytes, closed-list, open-list}
+use Rattle.answers.specs.declared.W.{W}
 use Rattle.layout.specs.declared.Opening.the-variants.{Open, Shut}
-use Rattle.layout.specs.declared.Refusal.{Refusal as Fault}
-use Rattle.layout.specs.Carried.{of-a-field, carried}
-use Rattle.layout.specs.Answers.{w-of, paper-refusal}
+use Rattle.answers.specs.declared.Refusal.{Refusal as Fault}
 use Rattle.layout.specs.Openings.{sees, shut, sight, seen, seen-bytes, seen-list, bits-of}
-use Rattle.fields.proofs.Refusing.{refused-few}
-use Rattle.layout.proofs.Carrying.{field-carried}
+use Rattle.fields.proofs.Refusing.{Few, refused-few}
+use Rattle.answers.proofs.Carrying.{carried-field}
 
 -- ---- the last byte
 
@@ -97,6 +97,18 @@ module _ {A : Type 0} (s l : List ℕ) {p : Grammar A} {b : Bool} {ws bs ws₁ b
   walk-is : r ≡ walk-of val (outcome (from s l) p (start b))
   walk-is = ap (λ (x : Shown). x .walk) shown-is ∙ shown-walk val (outcome (from s l) p (start b)) _ _
 
+-- a number of a field's refusal, as a run gives it
+field-carried : {m : ℕ} (w a : ℕ) → Few m → carried m w a 0 ≡ refusal-at m w a
+field-carried w a h = carried-field w a 0 (h .0) (omega (arith, h .1))
+
+-- a walk that came to its end, where the end of the file is looked at
+at-end : {A : Type 0} (val : A → ℕ) (w place : ℕ) (b : Bool) (a : A) (d : Cursor) (fs : List (ℕ × ℕ)) → d .n ≡ length fs
+    → d .bit ≡ width fs
+    → cond b (sees (val a) (d .n) (d .bit)) (shut (refusal-at 7 w place)) ≡ seen val (cond b (good a fs) (bad (refusal-at 7 w place)))
+unfolding seen
+at-end val w place true a d fs e g = ap₂ (λ (n k : ℕ). sees (val a) n k) e g
+at-end val w place false a d fs e g = refl
+
 -- over bytes
 module _ {A : Type 0} (s : List ℕ) (p : Grammar A) {ws bs ws₁ bs₁ : List ℕ} (val : A → ℕ) {r : Walk}
     (h : Ran (from s []) p (start false) ws bs val r ws₁ bs₁) where
@@ -112,16 +124,10 @@ module _ {A : Type 0} (s : List ℕ) (p : Grammar A) {ws bs ws₁ bs₁ : List �
   unfolding seen-bytes seen open-bytes walk-of
   bytes-seen w = ap (seen-bytes w s) (walk-is s [] h) ∙ go (outcome (from s []) p (start false)) refl
     where
-      under : (b : Bool) (a : A) (d : Cursor) (fs : List (ℕ × ℕ)) → d .n ≡ length fs → d .bit ≡ width fs
-          → cond b (sees (val a) (d .n) (d .bit)) (shut (refusal-at 7 w (d .bit)))
-          ≡ seen val (cond b (good a fs) (bad (refusal-at 7 w (d .bit))))
-      under true a d fs e g = ap₂ (λ (n k : ℕ). sees (val a) n k) e g
-      under false a d fs e g = refl
-
       go : (o : Outcome A) → outcome (from s []) p (start false) ≡ o
           → seen-bytes w s (walk-of val o) ≡ seen val (closed-bytes w s o (trace (from s []) p (start false)))
       go (ok a d) e =
-          under (ends-at s (d .bit)) a d (trace (from s []) p (start false)) (end-n (from s []) p false e)
+          at-end val w (d .bit) (ends-at s (d .bit)) a d (trace (from s []) p (start false)) (end-n (from s []) p false e)
           (end-bit (from s []) p false e)
       go (no m d) e = ap shut (field-carried w (d .bit) (refused-few s [] p (start false) m d e))
 
@@ -132,16 +138,10 @@ module _ {A : Type 0} (l : List ℕ) (p : Grammar A) {ws bs ws₁ bs₁ : List �
   unfolding seen-list seen open-list walk-of
   list-seen w = ap (seen-list w l) (walk-is [] l h) ∙ go (outcome (from [] l) p (start true)) refl
     where
-      under : (b : Bool) (a : A) (d : Cursor) (fs : List (ℕ × ℕ)) → d .n ≡ length fs → d .bit ≡ width fs
-          → cond b (sees (val a) (d .n) (d .bit)) (shut (refusal-at 7 w (d .n)))
-          ≡ seen val (cond b (good a fs) (bad (refusal-at 7 w (d .n))))
-      under true a d fs e g = ap₂ (λ (n k : ℕ). sees (val a) n k) e g
-      under false a d fs e g = refl
-
       go : (o : Outcome A) → outcome (from [] l) p (start true) ≡ o
           → seen-list w l (walk-of val o) ≡ seen val (closed-list w l o (trace (from [] l) p (start true)))
       go (ok a d) e =
-          under (eqb (d .n) (length l)) a d (trace (from [] l) p (start true)) (end-n (from [] l) p true e)
+          at-end val w (d .n) (eqb (d .n) (length l)) a d (trace (from [] l) p (start true)) (end-n (from [] l) p true e)
           (end-bit (from [] l) p true e)
       go (no m d) e = ap shut (field-carried w (d .n) (refused-few [] l p (start true) m d e))
 
@@ -151,7 +151,7 @@ pub bits-on : {r : Walk} {v : ℕ} {c : Cursor} (n : ℕ) → r ≡ On v c → b
 unfolding bits-of
 bits-on n e h = subst (λ x. bits-of x ≤ n) e h
 
-module _ (s : List ℕ) (place : Place) {r : Walk} {c : Cursor} where
+module _ (s : List ℕ) (place : W) {r : Walk} {c : Cursor} where
   pub bytes-good : {v : ℕ} {b : Bool} → r ≡ On v c → b ≡ ends-at s (c .bit) → b ≡ true
       → sight (Open v (c .n) (c .bit)) ≡ seen-bytes (w-of place) s r
   unfolding sight seen-bytes
@@ -167,7 +167,7 @@ module _ (s : List ℕ) (place : Place) {r : Walk} {c : Cursor} where
   unfolding sight seen-bytes
   bytes-no f e h = rw e (ap shut h)
 
-module _ (l : List ℕ) (place : Place) {r : Walk} {c : Cursor} where
+module _ (l : List ℕ) (place : W) {r : Walk} {c : Cursor} where
   pub list-good : {v : ℕ} → r ≡ On v c → c .n ≡ length l → sight (Open v (c .n) (c .bit)) ≡ seen-list (w-of place) l r
   unfolding sight seen-list
   list-good e g = rw (e, eq-eqb (c .n) (length l) g)

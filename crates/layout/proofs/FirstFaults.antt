@@ -9,6 +9,7 @@ use native.Mathlib.Decide.{ℕ-discrete}
 use borrow.Author.Tests.{ne-eqb, eqb-false}
 use lib.ListN.{length, take}
 use lib.Dec.{eqb}
+use Rattle.answers.specs.Carried.{refusal-at}
 use Rattle.bits.specs.Bits.{Bytes}
 use Rattle.bits.specs.Packed.{width, packed}
 use Rattle.patterns.specs.Refusal.{Refusal, book-place, certificate-place}
@@ -25,7 +26,7 @@ use Rattle.fields.proofs.ListFaults.{Countable, stopped-list-fault, list-fault-
 use Rattle.grammar.specs.Books.{RuleBook, a-book}
 use Rattle.grammar.proofs.FewFields.{book-countable, certificate-countable}
 use Rattle.books.specs.Counts.{start}
-use Rattle.layout.specs.Files.{good, bad, refusal-at, ends-at, closed-bytes, open-bytes, closed-list, open-list, certificate-of}
+use Rattle.layout.specs.Files.{good, bad, ends-at, closed-bytes, open-bytes, closed-list, open-list, certificate-of}
 use Rattle.layout.specs.FirstFaults.{Faulty}
 use Rattle.layout.proofs.RoundTrips.{bytes-packed, packed-opens}
 

@@ -6,6 +6,8 @@ use mathlib.Core.Bool.{true, false}
 use native.Mathlib.Omega.{arith}
 use borrow.Author.Tests.{lt-ltb, le-ltb}
 use lib.ListN.{length, drop, length-map}
+use Rattle.answers.specs.Carried.{refusal-at}
+use Rattle.answers.specs.Numbers.{w-of}
 use Rattle.bits.specs.Written.{Narrow}
 use Rattle.bits.specs.Packed.{bytesFor, packed}
 use Rattle.bits.proofs.PackedFields.{length-packed}
@@ -20,12 +22,12 @@ use Rattle.grammar.specs.Certificates.{a-certificate}
 use Rattle.terms.specs.Arity.{arityAt}
 use Rattle.terms.specs.Values.{nothing}
 use Rattle.books.specs.Counts.{start}
-use Rattle.layout.specs.Files.{Opened, good, bad, refusal-at, open-bytes, open-list, certificate-of, open-book, open-certificate}
+use Rattle.layout.specs.Files.{within-length, where-good, Opened, good, bad, open-bytes, open-list, certificate-of, open-book, open-certificate}
 use Rattle.layout.specs.declared.Opening.{Opening}
-use Rattle.layout.specs.declared.Place.{Place}
-use Rattle.layout.specs.declared.Place.the-variants.{Certificate}
+use Rattle.answers.specs.declared.W.{W}
+use Rattle.answers.specs.declared.W.the-variants.{Certificate}
 use Rattle.layout.specs.Openings.{sight, seen, seen-bytes, seen-list, CertificateOpened, Beside}
-use Rattle.layout.specs.Answers.{w-of, Given, gives, refuses, listed, written, within, beside, reading-book, listing-beside, writing-beside, reading-certificate, writing-certificate}
+use Rattle.layout.specs.Answers.{Given, gives, refuses, listed, written, reading-book, listing-beside, writing-beside, reading-certificate, writing-certificate}
 use Rattle.layout.proofs.FileEnds.{words-after, bytes-after, bytes-seen, list-seen}
 use Rattle.layout.proofs.Answering.{Good}
 use Rattle.layout.proofs.Opens.{InBytes, InList}
@@ -34,10 +36,10 @@ use Rattle.layout.proofs.Besides.{beside-ran}
 -- ---- too long, or not
 
 module _ (w most : ℕ) (s : List ℕ) (g : Given) where
-  pub too-long : most < length s → within w most s g ≡ refuses (refusal-at 2 w 0)
+  pub too-long : most < length s → within-length refuses w most s g ≡ refuses (refusal-at 2 w 0)
   too-long h = rw (lt-ltb most (length s) h)
 
-  pub not-too-long : length s ≤ most → within w most s g ≡ g
+  pub not-too-long : length s ≤ most → within-length refuses w most s g ≡ g
   not-too-long h = rw (le-ltb most (length s) h)
 
 -- ---- a book read
@@ -99,12 +101,12 @@ module _ {A : Type 0} (p : Grammar A) {val : A → ℕ} {r : Walk} {a : A} {fs :
 
 -- ---- a book written
 
-pub list-told : {A : Type 0} (l : List ℕ) (p : Grammar A) (val : A → ℕ) {ws bs ws₁ bs₁ : List ℕ} {w : Walk} (o : Opening) (place : Place)
+pub list-told : {A : Type 0} (l : List ℕ) (p : Grammar A) (val : A → ℕ) {ws bs ws₁ bs₁ : List ℕ} {w : Walk} (o : Opening) (place : W)
     → Ran (from [] l) p (start true) ws bs val w ws₁ bs₁ → sight o ≡ seen-list (w-of place) l w
     → sight o ≡ seen val (open-list (w-of place) p l)
 list-told l p val o place h e = e ∙ list-seen l p val h (w-of place)
 
-pub bytes-told : {A : Type 0} (s : List ℕ) (p : Grammar A) (val : A → ℕ) {ws bs ws₁ bs₁ : List ℕ} {w : Walk} (o : Opening) (place : Place)
+pub bytes-told : {A : Type 0} (s : List ℕ) (p : Grammar A) (val : A → ℕ) {ws bs ws₁ bs₁ : List ℕ} {w : Walk} (o : Opening) (place : W)
     → Ran (from s []) p (start false) ws bs val w ws₁ bs₁ → sight o ≡ seen-bytes (w-of place) s w
     → sight o ≡ seen val (open-bytes (w-of place) p s)
 bytes-told s p val o place h e = e ∙ bytes-seen s p val h (w-of place)
@@ -116,7 +118,7 @@ module _ (book counts : List ℕ) (h : Beside book counts) where
       → writing-beside book l ≡ written certificate-place 32768 (open-list certificate-place (certificate-of (h .tree)) l)
   unfolding writing-beside
   writing-is l =
-      ap (λ x. beside x λ b. written certificate-place 32768 (open-list certificate-place (certificate-of b) l)) (h .opened)
+      ap (λ x. where-good refuses x λ b. written certificate-place 32768 (open-list certificate-place (certificate-of b) l)) (h .opened)
 
   -- the first walk over it
   pub certificate-opened : {s ws bs ws₁ bs₁ : List ℕ} {x : Walk} (o : Opening)
@@ -132,7 +134,7 @@ module _ (book counts : List ℕ) (h : Beside book counts) where
 
   pub certificate-is : (s : List ℕ) → listing-beside book s ≡ listed (open-certificate (h .tree) s)
   unfolding listing-beside
-  certificate-is s = ap (λ x. beside x λ b. listed (open-certificate b s)) (h .opened)
+  certificate-is s = ap (λ x. where-good refuses x λ b. listed (open-certificate b s)) (h .opened)
 
 -- ---- a certificate with its book
 
@@ -161,9 +163,9 @@ module _ (book s : List ℕ) where
   -- a bad book refuses both
   pub listing-bad : {r : Refusal} → open-book book ≡ bad r → listing-beside book s ≡ refuses r
   unfolding listing-beside
-  listing-bad e = ap (λ x. beside x λ b. listed (open-certificate b s)) e
+  listing-bad e = ap (λ x. where-good refuses x λ b. listed (open-certificate b s)) e
 
   pub writing-bad : {r : Refusal} → open-book book ≡ bad r → writing-beside book s ≡ refuses r
   unfolding writing-beside
   writing-bad e =
-      ap (λ x. beside x λ b. written certificate-place 32768 (open-list certificate-place (certificate-of b) s)) e
+      ap (λ x. where-good refuses x λ b. written certificate-place 32768 (open-list certificate-place (certificate-of b) s)) e

@@ -8,6 +8,8 @@ use borrow.Author.Tests.{eqb-true}
 use lib.ListN.{length, take, drop, set, length-map}
 use lib.Seq.{take-at}
 use lib.Dec.{eqb}
+use Rattle.answers.specs.Carried.{refusal-at}
+use Rattle.answers.specs.Numbers.{w-of}
 use Rattle.patterns.specs.Refusal.{book-place}
 use Rattle.fields.specs.declared.Cursor.{Cursor}
 use Rattle.fields.specs.declared.Walk.{Walk}
@@ -22,9 +24,8 @@ use Rattle.grammar.specs.Limits.{BookFits, call-counts}
 use Rattle.grammar.proofs.BookFields.{book-exactly}
 use Rattle.books.specs.Counts.{noted, ruleCount, start, CountedBook}
 use Rattle.layout.specs.declared.Opening.{Opening}
-use Rattle.layout.specs.declared.Place.the-variants.{Book}
-use Rattle.layout.specs.Files.{good, bad, refusal-at, ends-at, closed-bytes, open-bytes, closed-list, open-list, open-book}
-use Rattle.layout.specs.Answers.{w-of}
+use Rattle.answers.specs.declared.W.the-variants.{Book}
+use Rattle.layout.specs.Files.{good, bad, ends-at, closed-bytes, open-bytes, closed-list, open-list, open-book}
 use Rattle.layout.specs.Openings.{sight, seen-bytes, BookOpened}
 use Rattle.layout.proofs.FileEnds.{bytes-seen}
 

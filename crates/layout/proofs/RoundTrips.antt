@@ -7,6 +7,7 @@ use native.Mathlib.Omega.{arith}
 use borrow.Author.Tests.{eq-eqb, eqb-true, le-ltb, ltb-false}
 use lib.ListN.{length, length-map}
 use lib.Dec.{ltb}
+use Rattle.answers.specs.Carried.{refusal-at}
 use Rattle.bits.specs.Bits.{Bytes, bitsAt}
 use Rattle.bits.specs.Packed.{width, bytesFor, packed}
 use Rattle.bits.proofs.PackedFields.{length-packed, padding-reads}
@@ -20,8 +21,8 @@ use Rattle.fields.proofs.Found.{Found}
 use Rattle.fields.proofs.Trips.{read-packed-field, read-trip, written-whole, write-trip}
 use Rattle.grammar.specs.Books.{RuleBook, a-book}
 use Rattle.books.specs.Counts.{start}
-use Rattle.layout.specs.Files.{Opened, good, bad, refusal-at, ends-at, open-bytes, open-list, certificate-of, open-book, open-certificate}
-use Rattle.layout.specs.Answers.{Given, gives, refuses, listed, written, within, beside, reading-book, writing-book, listing-beside, writing-beside, reading-certificate, writing-certificate}
+use Rattle.layout.specs.Files.{within-length, where-good, Opened, good, bad, ends-at, open-bytes, open-list, certificate-of, open-book, open-certificate}
+use Rattle.layout.specs.Answers.{Given, gives, refuses, listed, written, reading-book, writing-book, listing-beside, writing-beside, reading-certificate, writing-certificate}
 use Rattle.layout.proofs.Opens.{in-bytes, in-list}
 
 -- ---- one file, for every grammar
@@ -90,14 +91,14 @@ given-written w most (good a fs) {s} e = go (ltb most (length (packed fs))) refl
     go false t e = (a, fs, refl, cc e, ltb-false most (length (packed fs)) t)
 given-written w most (bad r) e = let z : _≡_ {A = ℕ} 0 1 = cc in absurd (omega arith)
 
-given-within : (w most : ℕ) (s : List ℕ) (g : Given) {l : List ℕ} → within w most s g ≡ gives l → (length s ≤ most) × (g ≡ gives l)
+given-within : (w most : ℕ) (s : List ℕ) (g : Given) {l : List ℕ} → within-length refuses w most s g ≡ gives l → (length s ≤ most) × (g ≡ gives l)
 given-within w most s g {l} = go (ltb most (length s)) refl
   where
     go : (b : Bool) → ltb most (length s) ≡ b → cond b (refuses (refusal-at 2 w 0)) g ≡ gives l → (length s ≤ most) × (g ≡ gives l)
     go true t e = let z : _≡_ {A = ℕ} 0 1 = cc e in absurd (omega arith)
     go false t e = (ltb-false most (length s) t, e)
 
-given-beside : (x : Opened RuleBook) (f : RuleBook → Given) {l : List ℕ} → beside x f ≡ gives l
+given-beside : (x : Opened RuleBook) (f : RuleBook → Given) {l : List ℕ} → where-good refuses x f ≡ gives l
     → (b : RuleBook) × (fs : List (ℕ × ℕ)) × (x ≡ good b fs) × (f b ≡ gives l)
 given-beside (good b fs) f e = (b, fs, refl, e)
 given-beside (bad r) f e = let z : _≡_ {A = ℕ} 0 1 = cc in absurd (omega arith)
@@ -124,7 +125,7 @@ book-written-read l s e =
     let v = list-values book-place book-place a-book l (x .2) in
     let k = x .4 in
     let q = list-packed book-place book-place a-book l (x .2) (omega arith) in
-    subst (λ t. within book-place 16384 t (listed (open-bytes book-place a-book t)) ≡ gives l) (x .3)
+    subst (λ t. within-length refuses book-place 16384 t (listed (open-bytes book-place a-book t)) ≡ gives l) (x .3)
     (rw (le-ltb 16384 (length (packed (x .1))) k, q) (ap gives v))
 
 -- ---- certificates with their book

@@ -3,12 +3,13 @@ use Prim.Native.Nat.{ℕ, _-_, _*_}
 use mathlib.Core.List.{List, []}
 use mathlib.Core.Bool.{Bool, true, false, _&&_, cond}
 use lib.ListN.{length}
-use lib.Dec.{eqb}
+use lib.Dec.{eqb, ltb}
 use Rattle.bits.specs.Bits.{bitsAt}
 use Rattle.bits.specs.Packed.{bytesFor}
 use Rattle.patterns.specs.Refusal.{Refusal, book-place, certificate-place}
 use Rattle.patterns.specs.First.{Exp, Pair, Pace}
 use Rattle.patterns.specs.Certificate.{Certificate}
+use Rattle.answers.specs.Carried.{refusal-at}
 use Rattle.fields.specs.Source.{from}
 use Rattle.fields.specs.Grammar.{Grammar, Outcome, outcome, trace}
 use Rattle.fields.specs.Grammar.Outcome.{ok, no}
@@ -21,9 +22,6 @@ use Rattle.books.specs.Counts.{start}
 pub data Opened (A : Type 0) : Type 0 where
   good : A → List (ℕ × ℕ) → Opened A
   bad : Refusal → Opened A
-
-abbrev pub refusal-at : ℕ → ℕ → ℕ → Refusal
-refusal-at number w a = record { number = number; w = w; a = a; b = 0 }
 
 -- 01: "After the last field come zero bits up to the next whole byte, and nothing more."
 unfoldable pub ends-at : List ℕ → ℕ → Bool
@@ -54,3 +52,14 @@ open-book s = open-bytes book-place a-book s
 
 unfoldable pub open-certificate : RuleBook → List ℕ → Opened (Certificate Exp Pair Pace)
 open-certificate b s = open-bytes certificate-place (certificate-of b) s
+
+-- ---- what is given of a file, where `refuse` says how a refusal is given
+
+-- 01, 2: "rule book over 16,384 bytes or certificate over 32,768, read or written"
+abbrev pub within-length : {B : Type 0} → (Refusal → B) → ℕ → ℕ → List ℕ → B → B
+within-length refuse w most s rest = cond (ltb most (length s)) (refuse (refusal-at 2 w 0)) rest
+
+-- a file's own refusal, or what its tree leads to
+abbrev pub where-good : {A B : Type 0} → (Refusal → B) → Opened A → (A → B) → B
+where-good refuse (good a fs) rest = rest a
+where-good refuse (bad r) rest = refuse r

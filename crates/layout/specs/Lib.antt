@@ -1,6 +1,5 @@
 -- The two files read and written: what is answered, and what the outputs hold.
 pub mod Files
-pub mod Carried
 pub mod Answers
 pub mod Promises
 pub mod Openings

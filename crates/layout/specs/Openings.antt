@@ -5,6 +5,8 @@ use mathlib.Core.List.{List}
 use mathlib.Core.Bool.{cond}
 use lib.ListN.{length, take}
 use lib.Dec.{eqb}
+use Rattle.answers.specs.Carried.{refusal-at, carried}
+use Rattle.answers.specs.Numbers.{paper-refusal}
 use Rattle.bits.specs.Packed.{width}
 use Rattle.patterns.specs.Refusal.{Refusal}
 use Rattle.fields.specs.declared.Walk.{Walk}
@@ -14,9 +16,7 @@ use Rattle.grammar.specs.Limits.{call-counts}
 use Rattle.terms.specs.Values.{nothing}
 use Rattle.layout.specs.declared.Opening.{Opening}
 use Rattle.layout.specs.declared.Opening.the-variants.{Open, Shut}
-use Rattle.layout.specs.Files.{Opened, good, bad, refusal-at, ends-at, open-book, open-certificate}
-use Rattle.layout.specs.Carried.{carried}
-use Rattle.layout.specs.Answers.{paper-refusal}
+use Rattle.layout.specs.Files.{Opened, good, bad, ends-at, open-book, open-certificate}
 
 -- a number, the fields and the bits of a good file; or the refusal
 pub data Sight : Type 0 where

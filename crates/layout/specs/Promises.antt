@@ -3,14 +3,15 @@ use Prim.Native.Nat.{ℕ}
 use mathlib.Core.Path.{_≡_}
 use mathlib.Core.List.{List}
 use lib.ListN.{length}
+use Rattle.answers.specs.Numbers.{paper-answer}
 use Rattle.bits.specs.Bits.{Bytes}
 use Rattle.patterns.specs.Refusal.{book-place, certificate-place}
-use Rattle.layout.specs.declared.Answer.{Answer}
-use Rattle.layout.specs.Answers.{Given, reading-book, writing-book, reading-certificate, writing-certificate, told, output, paper}
+use Rattle.answers.specs.declared.Answer.{Answer}
+use Rattle.layout.specs.Answers.{Given, reading-book, writing-book, reading-certificate, writing-certificate, told, output}
 
 -- An operation on the file W gives g. It was lent `before`, answered r and left `after`.
 pub record Answers (w : ℕ) (g : Given) (before : List ℕ) (r : Answer) (after : List ℕ) : Type 0 where
-  pub answered : paper r ≡ told w g (length before)
+  pub answered : paper-answer r ≡ told w g (length before)
   pub filled : after ≡ output g before
 
 -- ---- the four operations; the elements of a `&[u8]` are bytes, and the records say so

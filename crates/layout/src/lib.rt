@@ -1,76 +1,35 @@
 // The two packed files: reading and writing.
+use answers::Answer;
+use answers::Refusal;
+use answers::W;
 use fields::Cursor;
 use fields::Walk;
 ghost use mathlib.Core.Path.{_≡_};
 ghost use Prim.Native.Nat.{_≤_, _*_};
 ghost use lib.ListN.{length};
+ghost use Rattle.bits.specs.Packed.{bytesFor};
 ghost use Rattle.patterns.specs.Refusal.{certificate-place};
-ghost use Rattle.layout.specs.Files.{refusal-at, ends-at};
-ghost use Rattle.layout.specs.Carried.{carried};
+ghost use Rattle.answers.specs.Numbers.{w-of};
+ghost use Rattle.layout.specs.Files.{ends-at};
 ghost use Rattle.layout.specs.Openings.{bits-of, sight, seen-bytes, seen-list, BookOpened, CertificateOpened, Beside};
-ghost use Rattle.layout.specs.Answers.{listing-beside, writing-beside, w-of, paper-refusal, paper, refused-with};
+ghost use Rattle.layout.specs.Answers.{listing-beside, writing-beside};
 ghost use Rattle.layout.specs.Promises.{Answers, BookRead, BookWritten, CertificateRead, CertificateWritten};
-
-// What a refusal speaks of.
-pub enum Place {
-    Book,
-    Certificate,
-    Line,
-    Closing,
-    Neither,
-}
-
-// A refusal: its number, what it speaks of, and the place there.
-pub struct Refusal {
-    pub number: u16,
-    pub place: Place,
-    pub a: usize,
-    pub b: usize,
-}
-
-// What reading and writing answer: how many places were filled, or a refusal.
-pub enum Answer {
-    Filled(usize),
-    Refused(Refusal),
-}
 
 // A good file: a number of it, its fields and its bits. Or its refusal.
 pub enum Opening {
-    Open(usize, usize, usize),
+    Open {
+        value: usize,
+        fields: usize,
+        bits: usize,
+    },
     Shut(Refusal),
 }
 
-// A refusal with what its number carries: 3 to 7 a place in a file, 9 to 16 a line and a part of it, the others neither.
-pub fn carried(number: u16, place: Place, a: usize, b: usize) -> Refusal
-    ensures { λ r. ⌜ paper-refusal r ≡ carried number (w-of place) a b ⌝ }
+// How many whole bytes some bits need.
+fn bytes_for(bits: usize) -> usize
+    ensures { λ r. ⌜ r ≡ bytesFor bits ⌝ }
 {
-    match number {
-        3..=7 => Refusal {
-            number,
-            place,
-            a,
-            b: 0,
-        },
-        9..=16 => Refusal {
-            number,
-            place,
-            a,
-            b,
-        },
-        _ => Refusal {
-            number,
-            place,
-            a: 0,
-            b: 0,
-        },
-    }
-}
-
-// A refusal that speaks of a file as a whole.
-fn refused(number: u16, place: Place) -> Answer
-    ensures { λ r. ⌜ paper r ≡ refused-with (refusal-at number (w-of place) 0) ⌝ }
-{
-    Answer::Refused(carried(number, place, 0, 0))
+    bits / 8 + (bits % 8 + 7) / 8
 }
 
 // Whether only zero bits follow a bit, up to the next whole byte.
@@ -89,34 +48,42 @@ fn ends(s: &[u8], bit: usize) -> bool
 }
 
 // What a walk over a file's bytes comes to, once the end of the file is looked at.
-fn opened(s: &[u8], place: Place, w: Walk) -> Opening
+fn opened(s: &[u8], file: W, w: Walk) -> Opening
     requires { ⌜ (length (now s) ≤ 32768) × (bits-of w ≤ 8 * length (now s)) ⌝ }
-    ensures { λ r. ⌜ sight r ≡ seen-bytes (w-of place) (now (s .entry)) w ⌝ }
+    ensures { λ r. ⌜ sight r ≡ seen-bytes (w-of file) (now (s .entry)) w ⌝ }
 {
     match w {
-        Walk::No(m, c) => Opening::Shut(carried(m, place, c.bit, 0)),
+        Walk::No(m, c) => Opening::Shut(answers::carried(m, file, c.bit, 0)),
         Walk::On(v, c) => {
             let bit = c.bit;
             if ends(s, bit) {
-                return Opening::Open(v, c.n, bit);
+                return Opening::Open {
+                    value: v,
+                    fields: c.n,
+                    bits: bit,
+                };
             }
-            Opening::Shut(carried(7, place, bit, 0))
+            Opening::Shut(answers::carried(7, file, bit, 0))
         }
     }
 }
 
 // What a walk over a list of fields comes to, once the end of the list is looked at.
-fn opened_list(l: &[u16], place: Place, w: Walk) -> Opening
-    ensures { λ r. ⌜ sight r ≡ seen-list (w-of place) (now (l .entry)) w ⌝ }
+fn opened_list(l: &[u16], file: W, w: Walk) -> Opening
+    ensures { λ r. ⌜ sight r ≡ seen-list (w-of file) (now (l .entry)) w ⌝ }
 {
     match w {
-        Walk::No(m, c) => Opening::Shut(carried(m, place, c.n, 0)),
+        Walk::No(m, c) => Opening::Shut(answers::carried(m, file, c.n, 0)),
         Walk::On(v, c) => {
             let n = c.n;
             if n == l.len() {
-                return Opening::Open(v, n, c.bit);
+                return Opening::Open {
+                    value: v,
+                    fields: n,
+                    bits: c.bit,
+                };
             }
-            Opening::Shut(carried(7, place, n, 0))
+            Opening::Shut(answers::carried(7, file, n, 0))
         }
     }
 }
@@ -130,7 +97,7 @@ pub fn open_book(s: &[u8], counts: &mut [u8]) -> Opening
     let mut words = [0u16; 0];
     let mut bytes = [0u8; 0];
     let w = books::book(false, s, &none, &mut words, &mut bytes, counts);
-    opened(s, Place::Book, w)
+    opened(s, W::Book, w)
 }
 
 // Reads a book's bytes into a list of its fields.
@@ -138,14 +105,14 @@ pub fn read_book(book: &[u8], out: &mut [u16]) -> Answer
     ensures { λ r. ⌜ BookRead (now (book .entry)) (now (out .entry)) r (now (out .exit)) ⌝ }
 {
     if book.len() > 16384 {
-        return refused(2, Place::Book);
+        return Answer::Refused(answers::whole(2, W::Book));
     }
     let mut counts = [0u8; 256];
     match open_book(book, &mut counts) {
         Opening::Shut(r) => Answer::Refused(r),
-        Opening::Open(_, n, _) => {
+        Opening::Open { fields: n, .. } => {
             if n > out.len() {
-                return refused(8, Place::Book);
+                return Answer::Refused(answers::whole(8, W::Book));
             }
             let none = [0u16; 0];
             let mut bytes = [0u8; 0];
@@ -164,15 +131,15 @@ pub fn write_book(fields: &[u16], out: &mut [u8]) -> Answer
     let mut bytes = [0u8; 0];
     let mut counts = [0u8; 0];
     let w = books::book(true, &none, fields, &mut words, &mut bytes, &mut counts);
-    match opened_list(fields, Place::Book, w) {
+    match opened_list(fields, W::Book, w) {
         Opening::Shut(r) => Answer::Refused(r),
-        Opening::Open(_, _, k) => {
-            let n = k / 8 + (k % 8 + 7) / 8;
+        Opening::Open { bits: k, .. } => {
+            let n = bytes_for(k);
             if n > 16384 {
-                return refused(2, Place::Book);
+                return Answer::Refused(answers::whole(2, W::Book));
             }
             if n > out.len() {
-                return refused(8, Place::Book);
+                return Answer::Refused(answers::whole(8, W::Book));
             }
             let _again = books::book(true, &none, fields, &mut words, out, &mut counts);
             Answer::Filled(n)
@@ -194,7 +161,7 @@ pub fn open_certificate(book: &[u8], counts: &[u8], s: &[u8]) -> Opening
         listed: false,
     };
     let w = certificates::certificate(book, counts, s, &none, &mut words, &mut bytes, first);
-    opened(s, Place::Certificate, w)
+    opened(s, W::Certificate, w)
 }
 
 // Reads the bytes of a certificate, beside its good book, into a list of its fields.
@@ -204,9 +171,9 @@ fn list_certificate(book: &[u8], counts: &[u8], s: &[u8], out: &mut [u16]) -> An
 {
     match open_certificate(book, counts, s) {
         Opening::Shut(r) => Answer::Refused(r),
-        Opening::Open(_, n, _) => {
+        Opening::Open { fields: n, .. } => {
             if n > out.len() {
-                return refused(8, Place::Certificate);
+                return Answer::Refused(answers::whole(8, W::Certificate));
             }
             let none = [0u16; 0];
             let mut bytes = [0u8; 0];
@@ -226,15 +193,15 @@ pub fn read_certificate(book: &[u8], certificate: &[u8], out: &mut [u16]) -> Ans
     ensures { λ r. ⌜ CertificateRead (now (book .entry)) (now (certificate .entry)) (now (out .entry)) r (now (out .exit)) ⌝ }
 {
     if book.len() > 16384 {
-        return refused(2, Place::Book);
+        return Answer::Refused(answers::whole(2, W::Book));
     }
     if certificate.len() > 32768 {
-        return refused(2, Place::Certificate);
+        return Answer::Refused(answers::whole(2, W::Certificate));
     }
     let mut counts = [0u8; 256];
     match open_book(book, &mut counts) {
         Opening::Shut(r) => Answer::Refused(r),
-        Opening::Open(m, _, _) => list_certificate(book, &counts[..m], certificate, out),
+        Opening::Open { value: m, .. } => list_certificate(book, &counts[..m], certificate, out),
     }
 }
 
@@ -252,15 +219,15 @@ fn pack_certificate(book: &[u8], counts: &[u8], fields: &[u16], out: &mut [u8]) 
         listed: true,
     };
     let w = certificates::certificate(book, counts, &none, fields, &mut words, &mut bytes, first);
-    match opened_list(fields, Place::Certificate, w) {
+    match opened_list(fields, W::Certificate, w) {
         Opening::Shut(r) => Answer::Refused(r),
-        Opening::Open(_, _, k) => {
-            let n = k / 8 + (k % 8 + 7) / 8;
+        Opening::Open { bits: k, .. } => {
+            let n = bytes_for(k);
             if n > 32768 {
-                return refused(2, Place::Certificate);
+                return Answer::Refused(answers::whole(2, W::Certificate));
             }
             if n > out.len() {
-                return refused(8, Place::Certificate);
+                return Answer::Refused(answers::whole(8, W::Certificate));
             }
             let _again = certificates::certificate(
                 book,
@@ -281,11 +248,11 @@ pub fn write_certificate(book: &[u8], fields: &[u16], out: &mut [u8]) -> Answer
     ensures { λ r. ⌜ CertificateWritten (now (book .entry)) (now (fields .entry)) (now (out .entry)) r (now (out .exit)) ⌝ }
 {
     if book.len() > 16384 {
-        return refused(2, Place::Book);
+        return Answer::Refused(answers::whole(2, W::Book));
     }
     let mut counts = [0u8; 256];
     match open_book(book, &mut counts) {
         Opening::Shut(r) => Answer::Refused(r),
-        Opening::Open(m, _, _) => pack_certificate(book, &counts[..m], fields, out),
+        Opening::Open { value: m, .. } => pack_certificate(book, &counts[..m], fields, out),
     }
 }

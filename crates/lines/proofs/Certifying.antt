@@ -6,6 +6,8 @@ use mathlib.Core.List.{List, [], _∷_, _++_, flatMap, append-assoc}
 use mathlib.Core.Option.{Option, none, some}
 use native.Mathlib.Omega.{arith}
 use lib.ListN.{length, getD}
+use Rattle.answers.specs.Carried.{carried}
+use Rattle.answers.specs.Numbers.{paper-verdict}
 use Rattle.patterns.specs.Refusal.{line-place}
 use Rattle.patterns.specs.First.{Exp, Pair, Pace, one}
 use Rattle.patterns.specs.Derive.{Book}
@@ -13,10 +15,8 @@ use Rattle.patterns.specs.Certificate.{Claim, Line, Closing}
 use Rattle.patterns.specs.Judge.{line-checks, checks-from, checks, first-unmet, refuse, verdict, judge}
 use Rattle.grammar.specs.Listing.{line-fields, closing-fields, certificate-fields}
 use Rattle.grammar.specs.Limits.{LinesFit, ClosingFits, call-counts}
-use Rattle.layout.specs.Carried.{carried}
-use Rattle.verdicts.specs.Verdicts.{paper}
 use Rattle.verdicts.proofs.Parted.{parted-line}
-use Rattle.verdicts.specs.declared.Verdict.{Verdict as Ruling}
+use Rattle.answers.specs.declared.Verdict.{Verdict as Ruling}
 use Rattle.checking.specs.declared.Read.{Read}
 use Rattle.checking.specs.declared.Found.{Found}
 use Rattle.checking.specs.declared.Found.the-variants.{Fault, Good}
@@ -40,18 +40,18 @@ lines-none {book} {cert} {w} {after} {at} {k} {n} {r} z p = record { told = go; 
   where
     go : (ars : List ℕ) (B : Book Exp) (es : List (Claim Exp)) → Known book cert w ars B es → length es ≡ k → (ls : List (Line Exp Pair)) (c : Closing Exp Pace)
         → length ls ≡ n → LinesFit ars (call-counts B) k ls → ClosingFits ars (k + n) c → Lies cert at (flatMap line-fields ls ++ closing-fields c)
-        → paper r ≡ verdict one (first-unmet one (checks-from one B es k ls c)) c
+        → paper-verdict r ≡ verdict one (first-unmet one (checks-from one B es k ls c)) c
     go ars B es known len [] c e fits cf lies = p .told ars B es known c (subst (λ j. ClosingFits ars j c) (omega arith) cf) lies
     go ars B es known len (l ∷ ls) c e fits cf lies = absurd (omega arith)
 
 module _ {book cert w v : List ℕ} {at k n : ℕ} {f : Found} (ne : n ≢ 0) (small : k + n ≤ 255) (first : LineAt book cert at k w v f) where
-  pub lines-fault : {m p : ℕ} {r : Ruling} → f ≡ Fault m p → paper r ≡ refuse (carried m line-place k p) → LinesAt book cert at k n w v r
+  pub lines-fault : {m p : ℕ} {r : Ruling} → f ≡ Fault m p → paper-verdict r ≡ refuse (carried m line-place k p) → LinesAt book cert at k n w v r
   unfolding flatMap checks-from LinesFit
   lines-fault {m} {p} {r} q e = record { told = go; size = first .size }
     where
       go : (ars : List ℕ) (B : Book Exp) (es : List (Claim Exp)) → Known book cert w ars B es → length es ≡ k → (ls : List (Line Exp Pair)) (c : Closing Exp Pace)
           → length ls ≡ n → LinesFit ars (call-counts B) k ls → ClosingFits ars (k + n) c → Lies cert at (flatMap line-fields ls ++ closing-fields c)
-          → paper r ≡ verdict one (first-unmet one (checks-from one B es k ls c)) c
+          → paper-verdict r ≡ verdict one (first-unmet one (checks-from one B es k ls c)) c
       go ars B es known len [] c i fits cf lies = absurd (ne (sym i))
       go ars B es known len (l ∷ ls) c i fits cf lies =
           let all = append-assoc (line-fields l) (flatMap line-fields ls) (closing-fields c) in
@@ -67,7 +67,7 @@ module _ {book cert w v : List ℕ} {at k n : ℕ} {f : Found} (ne : n ≢ 0) (s
     where
       go : (ars : List ℕ) (B : Book Exp) (es : List (Claim Exp)) → Known book cert w ars B es → length es ≡ k → (ls : List (Line Exp Pair)) (c : Closing Exp Pace)
           → length ls ≡ n → LinesFit ars (call-counts B) k ls → ClosingFits ars (k + n) c → Lies cert at (flatMap line-fields ls ++ closing-fields c)
-          → paper r ≡ verdict one (first-unmet one (checks-from one B es k ls c)) c
+          → paper-verdict r ≡ verdict one (first-unmet one (checks-from one B es k ls c)) c
       go ars B es known len [] c i fits cf lies = absurd (ne (sym i))
       go ars B es known len (l ∷ ls) c i fits cf lies =
           let all = append-assoc (line-fields l) (flatMap line-fields ls) (closing-fields c) in

@@ -5,6 +5,8 @@ use mathlib.Core.List.{List, [], _∷_}
 use mathlib.Core.Option.{none, some, Option·none-ne-some}
 use native.Mathlib.Omega.{arith}
 use lib.ListN.{getD, getElem?}
+use Rattle.answers.specs.Carried.{carried}
+use Rattle.answers.specs.Numbers.{paper-verdict}
 use Rattle.patterns.specs.Term.{fill}
 use Rattle.patterns.specs.Refusal.{closing-place}
 use Rattle.patterns.specs.First.{Exp, Pace, one, from, to}
@@ -14,10 +16,8 @@ use Rattle.patterns.specs.Certificate.{by, Claim, Mark, Closing}
 use Rattle.patterns.specs.Demand.{Met, present}
 use Rattle.patterns.specs.Judge.{check, compare, loop-checks, closing-checks, accept, refuse}
 use Rattle.grammar.specs.Listing.{closing-fields}
-use Rattle.layout.specs.Carried.{carried}
-use Rattle.verdicts.specs.Verdicts.{paper}
 use Rattle.verdicts.proofs.Parted.{parted-closing}
-use Rattle.verdicts.specs.declared.Verdict.{Verdict as Ruling}
+use Rattle.answers.specs.declared.Verdict.{Verdict as Ruling}
 use Rattle.checking.specs.declared.Read.{Read}
 use Rattle.checking.specs.declared.Found.{Found}
 use Rattle.checking.specs.declared.Found.the-variants.{Fault, Good}
@@ -96,7 +96,7 @@ module _ {book cert w v : List ℕ} {left right : ℕ} {r : Found} (first : Chec
     }
 
 module _ {book cert w v : List ℕ} {line k α : ℕ} {f : Found} (found : ClosingFound book cert line k α w v f) where
-  pub closing-fault : {n p : ℕ} {r : Ruling} → f ≡ Fault n p → paper r ≡ refuse (carried n closing-place line p) → ClosingBy book cert line k α w v r
+  pub closing-fault : {n p : ℕ} {r : Ruling} → f ≡ Fault n p → paper-verdict r ≡ refuse (carried n closing-place line p) → ClosingBy book cert line k α w v r
   closing-fault {n} {p} q e = record {
     told = λ ars B es known d i pc filled small.
         let first = at-fault (found .told ars B es known d i pc filled small .1) q in
@@ -106,7 +106,7 @@ module _ {book cert w v : List ℕ} {line k α : ℕ} {f : Found} (found : Closi
     size = found .size;
   }
 
-  pub closing-good : {x : ℕ} {r : Ruling} → f ≡ Good x → paper r ≡ accept line (pace-of k α) → ClosingBy book cert line k α w v r
+  pub closing-good : {x : ℕ} {r : Ruling} → f ≡ Good x → paper-verdict r ≡ accept line (pace-of k α) → ClosingBy book cert line k α w v r
   closing-good q e = record {
     told = λ ars B es known d i p filled small.
         e ∙ ap (λ a. accept a (pace-of k α)) (sym i) ∙ ap (accept (d .line)) (sym p)

@@ -5,13 +5,13 @@ use mathlib.Core.Logic.{ite}
 use mathlib.Core.List.{List, [], _∷_, _++_, map, append-nil}
 use mathlib.Core.Option.{none, some, Option·some-injective}
 use native.Mathlib.Omega.{arith}
+use Rattle.answers.specs.Carried.{carried}
 use Rattle.patterns.specs.Every.{Every}
 use Rattle.patterns.specs.Refusal.{Refusal, closing-place}
 use Rattle.patterns.specs.First.{Exp, Pace, one}
 use Rattle.patterns.specs.Certificate.{Closing}
 use Rattle.patterns.specs.Demand.{Met, met?}
 use Rattle.patterns.specs.Judge.{Check, Placed, place, first-unmet, accept, refuse, verdict}
-use Rattle.layout.specs.Carried.{carried}
 use Rattle.verdicts.proofs.Parted.{Parted}
 use Rattle.checking.specs.Found.{fault}
 

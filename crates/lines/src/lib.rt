@@ -1,18 +1,17 @@
 // The lines of a certificate, each over those before it, and the closing: the verdict on two good files.
+use answers::Acceptance;
+use answers::Verdict;
+use answers::W;
 use checking::Behind;
 use checking::Found;
 use checking::Kind;
 use checking::Subject;
-use layout::Place;
-use verdicts::Acceptance;
-use verdicts::Verdict;
 ghost use mathlib.Core.Path.{_≡_};
 ghost use Prim.Native.Nat.{_+_, _≤_, _<_};
 ghost use lib.ListN.{length};
-ghost use Rattle.patterns.specs.Judge.{accept, refuse};
-ghost use Rattle.layout.specs.Carried.{carried};
-ghost use Rattle.layout.specs.Answers.{w-of};
-ghost use Rattle.verdicts.specs.Verdicts.{paper};
+ghost use Rattle.answers.specs.Carried.{carried};
+ghost use Rattle.answers.specs.Numbers.{w-of, paper-verdict};
+ghost use Rattle.patterns.specs.Judge.{accept};
 ghost use Rattle.lines.specs.Certificates.{pace-of, NotesLine, KindAt, LineAt, ClosingFound, ClosingBy, ClosingAt, LinesAt, Prepares, JudgesLines};
 
 // Where both sides of line k lie, noted.
@@ -111,21 +110,14 @@ fn closing_by(
     ensures { λ r. ⌜ ClosingBy (now (book .entry)) (now (certificate .entry)) line k alpha (now (w .entry)) (now (w .exit)) r ⌝ }
 {
     match closing_parts(book, certificate, w, line, k, alpha) {
-        Found::Fault(n, p) => refused(n, Place::Closing, line, p),
+        Found::Fault(n, p) => Verdict::Refused(answers::carried(n, W::Closing, line, p)),
         Found::Good(_) => accepted(line, k, alpha),
     }
 }
 
-// A refusal, with what its number carries.
-fn refused(number: u16, place: Place, a: usize, b: usize) -> Verdict
-    ensures { λ r. ⌜ paper r ≡ refuse (carried number (w-of place) a b) ⌝ }
-{
-    Verdict::Refused(layout::carried(number, place, a, b))
-}
-
 // The closing's own numbers.
 fn accepted(line: usize, k: u16, alpha: u16) -> Verdict
-    ensures { λ r. ⌜ paper r ≡ accept line (pace-of k alpha) ⌝ }
+    ensures { λ r. ⌜ paper-verdict r ≡ accept line (pace-of k alpha) ⌝ }
 {
     Verdict::Accepted(Acceptance {
         line,
@@ -158,7 +150,7 @@ fn lines(book: &[u8], certificate: &[u8], w: &mut [u64], at: usize, k: usize, n:
     while more > 0 {
         match line(book, certificate, w, next, number) {
             Found::Fault(m, part) => {
-                return refused(m, Place::Line, number, part);
+                return Verdict::Refused(answers::carried(m, W::Line, number, part));
             }
             Found::Good(end) => {
                 next = end;

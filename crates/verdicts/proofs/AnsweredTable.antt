@@ -6,6 +6,8 @@ use mathlib.Core.Bool.{Bool, true, false, cond}
 use native.Mathlib.Omega.{arith}
 use lib.ListN.{length}
 use lib.Dec.{eqb, ltb}
+use Rattle.answers.specs.Carried.{refusal-at}
+use Rattle.answers.specs.Numbers.{Told, filled-with, refused-with}
 use Rattle.bits.specs.Packed.{packed}
 use Rattle.patterns.specs.Refusal.{Refusal, book-place, certificate-place}
 use Rattle.fields.specs.Source.{from}
@@ -14,10 +16,10 @@ use Rattle.fields.specs.Grammar.Outcome.{ok, no}
 use Rattle.fields.proofs.Refusing.{refused-few}
 use Rattle.grammar.specs.Books.{RuleBook, a-book}
 use Rattle.books.specs.Counts.{start}
-use Rattle.layout.specs.Files.{Opened, good, bad, refusal-at, ends-at, closed-bytes, open-bytes, closed-list, open-list, certificate-of, open-book, open-certificate}
-use Rattle.layout.specs.Answers.{Given, gives, refuses, listed, written, within, beside, reading-book, writing-book, listing-beside, writing-beside, reading-certificate, writing-certificate, Told, filled-with, refused-with, told}
-use Rattle.verdicts.specs.InTable.{InTable}
-use Rattle.verdicts.proofs.InTable.{long-file-in-table, field-in-table, no-room-in-table}
+use Rattle.layout.specs.Files.{within-length, where-good, Opened, good, bad, ends-at, closed-bytes, open-bytes, closed-list, open-list, certificate-of, open-book, open-certificate}
+use Rattle.layout.specs.Answers.{Given, gives, refuses, listed, written, reading-book, writing-book, listing-beside, writing-beside, reading-certificate, writing-certificate, told}
+use Rattle.answers.specs.InTable.{InTable}
+use Rattle.answers.proofs.InTable.{long-file-in-table, field-in-table, no-room-in-table}
 
 -- what a file, an operation or an answer is refused with is in the table
 abbrev pub OpenedInTable : {A : Type 0} → Opened A → Type 0
@@ -86,7 +88,7 @@ module _ (w : ℕ) (file : w ≤ 1) where
   long-in-table true rest h r e = subst InTable (same-refusal _ _ e) (long-file-in-table w file)
   long-in-table false rest h r e = h r e
 
-  within-in-table : (most : ℕ) (s : List ℕ) (rest : Given) → GivenInTable rest → GivenInTable (within w most s rest)
+  within-in-table : (most : ℕ) (s : List ℕ) (rest : Given) → GivenInTable rest → GivenInTable (within-length refuses w most s rest)
   within-in-table most s rest h = long-in-table (ltb most (length s)) rest h
 
   written-in-table : {A : Type 0} (most : ℕ) (o : Opened A) → OpenedInTable o → GivenInTable (written w most o)
@@ -106,7 +108,7 @@ module _ (w : ℕ) (file : w ≤ 1) where
       go false q = let z : _≡_ {A = ℕ} 0 1 = cc in absurd (omega arith)
 
 beside-in-table : (o : Opened RuleBook) (f : RuleBook → Given) → OpenedInTable o → ((b : RuleBook) → GivenInTable (f b))
-    → GivenInTable (beside o f)
+    → GivenInTable (where-good refuses o f)
 beside-in-table (good b fs) f h g r e = g b r e
 beside-in-table (bad q) f h g r e = h r (ap bad (same-refusal q r e))
 

@@ -17,8 +17,8 @@ use Rattle.patterns.specs.First.{Exp, Pair, one}
 use Rattle.patterns.proofs.Every.{map-listed, below-listed, every-listed, every-append, every-weaken}
 use Rattle.grammar.specs.Books.{RuleBook}
 use Rattle.grammar.specs.Limits.{RuleFits, BookFits, call-counts, UseFits, LastFits, StopFits, KindFits}
-use Rattle.verdicts.specs.InTable.{Column, only, Allows, Row, row, Among, a-line, at-line, unfold-rows, descent-rows, line-rows}
-use Rattle.verdicts.proofs.InTable.{among-at}
+use Rattle.answers.specs.InTable.{Column, only, Allows, Row, row, Among, a-line, at-line, unfold-rows, descent-rows, line-rows}
+use Rattle.answers.proofs.InTable.{among-at}
 
 -- ---- one check
 

@@ -17,8 +17,8 @@ use Rattle.patterns.proofs.Every.{below-listed, every-rest, every-append, every
 use Rattle.grammar.specs.Books.{RuleBook}
 use Rattle.grammar.specs.Limits.{BookFits, call-counts, LinesFit, CertificateFits}
 use Rattle.verdicts.specs.Demands.{BookFile, CertificateFile}
-use Rattle.verdicts.specs.InTable.{Allows, Among, file-rows, unfold-rows, descent-rows, closing-rows, line-rows, InTable}
-use Rattle.verdicts.proofs.InTable.{among-first, among-rest}
+use Rattle.answers.specs.InTable.{Allows, Among, file-rows, unfold-rows, descent-rows, closing-rows, line-rows, InTable}
+use Rattle.answers.proofs.InTable.{among-first, among-rest}
 use Rattle.verdicts.proofs.CheckedLines.{Named, named-is-there, Fine, row-at, fine-alone, fine-compare, fine-given, line-checks-fine}
 
 -- ---- the closing

@@ -1,5 +1,6 @@
 -- What a computed example over bytes unfolds, under one name: `unfolding compute`.
 use mathlib.Core.List.{flatMap}
+use Rattle.answers.specs.Carried.{of-a-field, of-a-part, carried}
 use Rattle.patterns.proofs.Compute.{compute as compute-trees}
 use Rattle.bits.specs.Bits.{bitAt, spelled, bitsAt, readField}
 use Rattle.bits.specs.Packed.{bitsOf, fieldBits, groups, bytesOf, packed}
@@ -12,7 +13,6 @@ use Rattle.grammar.specs.Certificates.{a-right-if, a-right, a-claim, an-index, 
 use Rattle.grammar.specs.Limits.{call-counts}
 use Rattle.grammar.specs.Listing.{if-any, pair-fields, filling-fields, arity-fields, signature-fields, rule-fields, book-fields, claim-fields, use-fields, stop-number, stop-fields, kind-fields, kind-number, line-fields, closing-fields, certificate-fields, term-fields, terms-fields}
 use Rattle.layout.specs.Files.{ends-at, open-bytes, certificate-of, open-book, open-certificate}
-use Rattle.layout.specs.Carried.{of-a-field, of-a-part, carried}
 use Rattle.verdicts.specs.Judging.{judging-certificate, judging-files, judging}
 use Rattle.verdicts.specs.Program.{book-length, judging-framed, judging-input}
 use Rattle.verdicts.specs.Decimal.{decimal-within, decimal}

@@ -3,9 +3,9 @@ use mathlib.Core.Path.{_≡_, refl}
 use mathlib.Core.List.{List, [], _∷_}
 use Prim.Native.Nat.{ℕ}
 use lib.ListN.{replicate}
+use Rattle.answers.specs.Carried.{of-a-field, of-a-part, carried}
 use Rattle.patterns.specs.Refusal.{closing-place}
 use Rattle.patterns.specs.Judge.{accept, refuse}
-use Rattle.layout.specs.Carried.{of-a-field, of-a-part, carried}
 use Rattle.verdicts.specs.Program.{judging-framed, judging-input, book-length}
 use Rattle.verdicts.specs.Decimal.{decimal-within, decimal}
 use Rattle.verdicts.specs.Lines.{accept-word, refuse-word, spaced, sentence, refusal-line, line-of}

@@ -6,23 +6,24 @@ use mathlib.Core.Bool.{Bool, true, false, cond}
 use native.Mathlib.Omega.{arith}
 use lib.ListN.{length}
 use lib.Dec.{ltb}
+use Rattle.answers.specs.Numbers.{paper-refusal, paper-answer}
 use Rattle.patterns.specs.Certificate.{Certificate}
 use Rattle.patterns.specs.Refusal.{Refusal, book-place, certificate-place}
 use Rattle.patterns.specs.Judge.{Verdict, refuse, judge}
 use Rattle.patterns.specs.First.{Exp, Pair, Pace, one}
 use Rattle.patterns.proofs.Judged.{refuses-exactly}
 use Rattle.grammar.specs.Books.{RuleBook}
-use Rattle.layout.specs.declared.Answer.{Answer}
-use Rattle.layout.specs.declared.Answer.the-variants.{Refused}
-use Rattle.layout.specs.declared.Refusal.{Refusal as Fault}
-use Rattle.layout.specs.Files.{Opened, good, bad, open-book, open-certificate}
-use Rattle.layout.specs.Answers.{Given, paper-refusal, paper}
+use Rattle.answers.specs.declared.Answer.{Answer}
+use Rattle.answers.specs.declared.Answer.the-variants.{Refused}
+use Rattle.answers.specs.declared.Refusal.{Refusal as Fault}
+use Rattle.layout.specs.Files.{where-good, Opened, good, bad, open-book, open-certificate}
+use Rattle.layout.specs.Answers.{Given}
 use Rattle.layout.specs.Promises.{Answers, BookRead, BookWritten, CertificateRead, CertificateWritten}
 use Rattle.layout.proofs.OneFile.{book-file-fits, certificate-file-fits}
-use Rattle.verdicts.specs.Judging.{where-good, with-table, judging-certificate, judging-files, judging}
+use Rattle.verdicts.specs.Judging.{with-table, judging-certificate, judging-files, judging}
 use Rattle.verdicts.specs.Program.{judging-framed, judging-input}
-use Rattle.verdicts.specs.InTable.{InTable}
-use Rattle.verdicts.proofs.InTable.{short-table-in-table, long-file-in-table, unframed-in-table}
+use Rattle.answers.specs.InTable.{InTable}
+use Rattle.answers.proofs.InTable.{short-table-in-table, long-file-in-table, unframed-in-table}
 use Rattle.verdicts.proofs.CheckedTable.{broken-in-table}
 use Rattle.verdicts.proofs.AnsweredTable.{GivenInTable, book-in-table, certificate-in-table, told-in-table, reading-book-in-table, writing-book-in-table, reading-certificate-in-table, writing-certificate-in-table}
 
@@ -50,12 +51,12 @@ unfolding judging-certificate
 files book certificate = book-way (open-book book) refl
   where
     certificate-way : (b : RuleBook) (fs : List (ℕ × ℕ)) → open-book book ≡ good b fs → (o : Opened (Certificate Exp Pair Pace))
-        → open-certificate b certificate ≡ o → VerdictInTable (where-good o λ K. judge one (b .rules) K)
+        → open-certificate b certificate ≡ o → VerdictInTable (where-good refuse o λ K. judge one (b .rules) K)
     certificate-way b fs e (good K gs) f = trees book certificate b fs e K gs f
     certificate-way b fs e (bad r) f = refused r (certificate-in-table b certificate r f)
 
     book-way : (o : Opened RuleBook) → open-book book ≡ o
-        → VerdictInTable (where-good o λ b. where-good (open-certificate b certificate) λ K. judge one (b .rules) K)
+        → VerdictInTable (where-good refuse o λ b. where-good refuse (open-certificate b certificate) λ K. judge one (b .rules) K)
     book-way (good b fs) e = certificate-way b fs e (open-certificate b certificate) refl
     book-way (bad r) e = refused r (book-in-table book r e)
 
@@ -84,9 +85,9 @@ judging-input-in-table input size =
 
 answers-in-table : {w : ℕ} {g : Given} {before : List ℕ} {r : Answer} {after : List ℕ} → (file : w ≤ 1) → GivenInTable g
     → Answers w g before r after → (f : Fault) → r ≡ Refused f → InTable (paper-refusal f)
-unfolding paper
+unfolding paper-answer
 answers-in-table {w} {g} {before} file h a f e =
-    told-in-table w file g (length before) h (paper-refusal f) (sym (a .answered) ∙ ap paper e)
+    told-in-table w file g (length before) h (paper-refusal f) (sym (a .answered) ∙ ap paper-answer e)
 
 module _ {before : List ℕ} {r : Answer} {after : List ℕ} (f : Fault) (e : r ≡ Refused f) where
   pub read-book-in-table : {book : List ℕ} → BookRead book before r after → InTable (paper-refusal f)

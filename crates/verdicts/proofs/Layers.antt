@@ -4,12 +4,13 @@ use mathlib.Core.Path.{_≡_, refl}
 use mathlib.Core.List.{List}
 use borrow.Author.Tests.{lt-ltb, le-ltb}
 use lib.ListN.{length}
+use Rattle.answers.specs.Carried.{refusal-at}
 use Rattle.patterns.specs.Certificate.{Certificate}
 use Rattle.patterns.specs.Refusal.{Refusal, book-place, certificate-place}
 use Rattle.patterns.specs.Judge.{refuse, judge}
 use Rattle.patterns.specs.First.{Exp, Pair, Pace, one}
 use Rattle.grammar.specs.Books.{RuleBook}
-use Rattle.layout.specs.Files.{good, bad, refusal-at, open-book, open-certificate}
+use Rattle.layout.specs.Files.{good, bad, open-book, open-certificate}
 use Rattle.verdicts.specs.Judging.{judging-certificate, judging-files, refusal-one, judging}
 
 module _ (book certificate : List ℕ) where

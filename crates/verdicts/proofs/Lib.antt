@@ -6,14 +6,12 @@ pub mod Turns
 pub mod Printed
 pub mod Layers
 pub mod Demands
-pub mod InTable
 pub mod CheckedLines
 pub mod CheckedTable
 pub mod AnsweredTable
 pub mod Framing
 pub mod WorkTables
 pub mod JudgedTable
-pub mod OneVerdict
 pub mod OneLine
 pub mod Parted
 pub mod Telling

@@ -3,17 +3,17 @@ use Prim.Native.Nat.{ℕ, _<_}
 use mathlib.Core.Path.{_≡_, refl, ap, sym, _∙_}
 use mathlib.Core.List.{List, [], _∷_, _++_, append-assoc}
 use native.Mathlib.Omega.{arith}
+use Rattle.answers.specs.Carried.{Carries}
+use Rattle.answers.specs.Numbers.{paper-verdict}
+use Rattle.answers.proofs.Inverses.{verdict-tells}
 use Rattle.patterns.specs.Every.{Every}
 use Rattle.patterns.specs.First.{Pace}
 use Rattle.patterns.specs.Refusal.{Refusal}
 use Rattle.patterns.specs.Judge.{Verdict, accept, refuse}
-use Rattle.layout.specs.Carried.{Carries}
-use Rattle.verdicts.specs.declared.Verdict.{Verdict as Ruling}
+use Rattle.answers.specs.declared.Verdict.{Verdict as Ruling}
 use Rattle.verdicts.specs.Decimal.{decimal}
-use Rattle.verdicts.specs.Verdicts.{paper}
 use Rattle.verdicts.specs.Lines.{accept-word, refuse-word, spaced, sentence, refusal-line, line-of, TellsAll}
 use Rattle.verdicts.proofs.Decimal.{IsDigit, decimal-digits, decimal-tells}
-use Rattle.verdicts.proofs.OneVerdict.{paper-tells}
 
 -- a rest that begins with a byte below the digits
 abbrev Stops : List ℕ → Type 0
@@ -89,5 +89,5 @@ line-tells (refuse r) (accept m q) h k e = let z : _≡_ {A = ℕ} 114 97 = cc i
 line-tells (refuse r) (refuse t) h k e = ap refuse (sym h ∙ refusals-tell _ _ e ∙ k)
 
 -- So what the program prints tells the code's verdict.
-pub printed-tells : (p q : Ruling) → TellsAll (paper p) → TellsAll (paper q) → line-of (paper p) ≡ line-of (paper q) → p ≡ q
-printed-tells p q h k e = paper-tells p q (line-tells (paper p) (paper q) h k e)
+pub printed-tells : (p q : Ruling) → TellsAll (paper-verdict p) → TellsAll (paper-verdict q) → line-of (paper-verdict p) ≡ line-of (paper-verdict q) → p ≡ q
+printed-tells p q h k e = verdict-tells p q (line-tells (paper-verdict p) (paper-verdict q) h k e)

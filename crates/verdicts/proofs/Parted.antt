@@ -5,6 +5,7 @@ use mathlib.Core.List.{List, [], _∷_, _++_}
 use mathlib.Core.Option.{Option, none, some}
 use native.Mathlib.Omega.{arith}
 use lib.ListN.{getElem?}
+use Rattle.answers.specs.Carried.{of-a-field, carried}
 use Rattle.patterns.specs.Term.{Term}
 use Rattle.patterns.specs.Every.{Every}
 use Rattle.patterns.specs.Edition.{Edition}
@@ -13,8 +14,7 @@ use Rattle.patterns.specs.Certificate.{Fills, Mark, Claim, Use, Stop, fact, cal
 use Rattle.patterns.specs.Demand.{Demand, empty, present, level, missing}
 use Rattle.patterns.specs.Judge.{Check, check, compare, given, pending, sole, parts, stops, line-checks, loop-checks, closing-checks}
 use Rattle.patterns.proofs.Every.{every-append}
-use Rattle.layout.specs.Carried.{of-a-field, carried}
-use Rattle.layout.proofs.Carrying.{carried-part}
+use Rattle.answers.proofs.Carrying.{carried-part}
 
 -- ---- the checks of the judge over trees
 

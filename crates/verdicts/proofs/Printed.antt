@@ -6,30 +6,30 @@ use native.Mathlib.Omega.{arith}
 use borrow.Author.Tests.{le-ltb}
 use lib.ListN.{length, take, drop}
 use lib.Seq.{take-append-seam}
+use Rattle.answers.specs.Carried.{carried}
+use Rattle.answers.specs.Numbers.{w-of, paper-refusal, paper-pace, paper-verdict}
 use Rattle.patterns.specs.Refusal.{Refusal}
 use Rattle.patterns.specs.Judge.{refuse}
-use Rattle.layout.specs.Carried.{carried}
-use Rattle.layout.specs.Answers.{w-of, paper-refusal, output}
-use Rattle.layout.specs.declared.Refusal.{Refusal as Fault}
-use Rattle.layout.proofs.Carrying.{carried-field, carried-part, carried-low, carried-between, carried-high}
-use Rattle.verdicts.specs.declared.Acceptance.{Acceptance}
-use Rattle.verdicts.specs.declared.Verdict.{Verdict as Ruling}
-use Rattle.verdicts.specs.declared.Verdict.the-variants.{Accepted, Refused}
-use Rattle.verdicts.specs.Verdicts.{paper-pace, paper}
+use Rattle.layout.specs.Answers.{output}
+use Rattle.answers.specs.declared.Refusal.{Refusal as Fault}
+use Rattle.answers.proofs.Carrying.{carried-field, carried-part, carried-low, carried-between, carried-high}
+use Rattle.answers.specs.declared.Acceptance.{Acceptance}
+use Rattle.answers.specs.declared.Verdict.{Verdict as Ruling}
+use Rattle.answers.specs.declared.Verdict.the-variants.{Accepted, Refused}
 use Rattle.verdicts.specs.Lines.{accept-word, refuse-word, sentence, refusal-line, line-of, written-length, Prints}
 
 -- ---- an acceptance
 
 pub accepted-printed : (out : List ℕ) {out′ : List ℕ} {r : ℕ} {v : Ruling} (a : Acceptance) → v ≡ Accepted a
-    → Prints (sentence accept-word (a .line ∷ a .k ∷ a .alpha ∷ [])) out r out′ → Prints (line-of (paper v)) out r out′
-unfolding paper paper-pace line-of
-accepted-printed out {out′} {r} a e p = subst (λ (v : Ruling). Prints (line-of (paper v)) out r out′) (sym e) p
+    → Prints (sentence accept-word (a .line ∷ a .k ∷ a .alpha ∷ [])) out r out′ → Prints (line-of (paper-verdict v)) out r out′
+unfolding paper-verdict paper-pace line-of
+accepted-printed out {out′} {r} a e p = subst (λ (v : Ruling). Prints (line-of (paper-verdict v)) out r out′) (sym e) p
 
 -- ---- a refusal, by its number
 
-module _ (out : List ℕ) {out′ : List ℕ} {r : ℕ} (f : Fault) {w : ℕ} (place : w ≡ w-of (f .place)) where
+module _ (out : List ℕ) {out′ : List ℕ} {r : ℕ} (f : Fault) {w : ℕ} (place : w ≡ w-of (f .w)) where
   -- the numbers of a refusal that is carried
-  carried-printed : (a b : ℕ) → carried (f .number) (w-of (f .place)) (f .a) (f .b) ≡ record { number = f .number; w = w-of (f .place); a = a; b = b }
+  carried-printed : (a b : ℕ) → carried (f .number) (w-of (f .w)) (f .a) (f .b) ≡ record { number = f .number; w = w-of (f .w); a = a; b = b }
       → Prints (sentence refuse-word (f .number ∷ w ∷ a ∷ b ∷ [])) out r out′ → Prints (line-of (refuse (paper-refusal f))) out r out′
   unfolding line-of refusal-line paper-refusal
   carried-printed a b e p =
@@ -57,9 +57,9 @@ module _ (out : List ℕ) {out′ : List ℕ} {r : ℕ} (f : Fault) {w : ℕ} (p
   high-printed p = carried-printed 0 0 (carried-high _ _ _ p)
 
 pub refused-printed : (out : List ℕ) {out′ : List ℕ} {r : ℕ} {v : Ruling} (f : Fault) → v ≡ Refused f
-    → Prints (line-of (refuse (paper-refusal f))) out r out′ → Prints (line-of (paper v)) out r out′
-unfolding paper
-refused-printed out {out′} {r} f e p = subst (λ (v : Ruling). Prints (line-of (paper v)) out r out′) (sym e) p
+    → Prints (line-of (refuse (paper-refusal f))) out r out′ → Prints (line-of (paper-verdict v)) out r out′
+unfolding paper-verdict
+refused-printed out {out′} {r} f e p = subst (λ (v : Ruling). Prints (line-of (paper-verdict v)) out r out′) (sym e) p
 
 -- ---- what a caller with 91 bytes gets
 

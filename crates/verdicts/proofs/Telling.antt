@@ -8,7 +8,7 @@ use Rattle.patterns.specs.Judge.{Verdict, accept, refuse}
 use Rattle.verdicts.specs.Judging.{judging}
 use Rattle.verdicts.specs.Program.{judging-input}
 use Rattle.verdicts.specs.Lines.{refusal-line, line-of, TellsAll}
-use Rattle.verdicts.proofs.InTable.{in-table-carries}
+use Rattle.answers.proofs.InTable.{in-table-carries}
 use Rattle.verdicts.proofs.JudgedTable.{VerdictInTable, judging-in-table, judging-input-in-table}
 use Rattle.verdicts.proofs.OneLine.{own-line, line-tells}
 

@@ -9,6 +9,7 @@ use native.Mathlib.Omega.{arith}
 use native.Mathlib.Decide.{decLe}
 use borrow.Author.Tests.{lt-ltb, le-ltb}
 use lib.ListN.{length, replicate}
+use Rattle.answers.specs.Carried.{refusal-at}
 use Rattle.fields.specs.Source.{from}
 use Rattle.fields.specs.Grammar.{Grammar, Outcome, outcome, trace}
 use Rattle.fields.specs.Grammar.Outcome.{ok, no as stopped}
@@ -22,7 +23,7 @@ use Rattle.patterns.specs.First.{Exp, Pair, Pace, one}
 use Rattle.patterns.proofs.Judged.{refuses-exactly}
 use Rattle.patterns.proofs.Every.{every-append, every-map, every-rest}
 use Rattle.grammar.specs.Books.{RuleBook}
-use Rattle.layout.specs.Files.{Opened, good, bad, refusal-at, ends-at, closed-bytes, open-bytes, open-book, open-certificate}
+use Rattle.layout.specs.Files.{Opened, good, bad, ends-at, closed-bytes, open-bytes, open-book, open-certificate}
 use Rattle.verdicts.specs.Judging.{judging-certificate, judging-files, refusal-one, with-table, judging, work-after}
 use Rattle.verdicts.specs.Program.{book-length, judging-framed, judging-input}
 use Rattle.verdicts.proofs.Layers.{book-long, certificate-long, both-short, book-refused, certificate-refused, both-opened}

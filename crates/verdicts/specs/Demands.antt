@@ -4,6 +4,7 @@ use mathlib.Core.Path.{_≡_}
 use mathlib.Core.List.{List, [], _∷_, map}
 use mathlib.Core.Option.{some}
 use lib.ListN.{length, getElem?}
+use Rattle.answers.specs.Carried.{refusal-at}
 use Rattle.bits.specs.Packed.{packed}
 use Rattle.patterns.specs.Term.{Filling, fill}
 use Rattle.patterns.specs.Derive.{Query, Steps}
@@ -18,7 +19,7 @@ use Rattle.fields.specs.Faults.{Fault}
 use Rattle.grammar.specs.Books.{RuleBook, a-book}
 use Rattle.grammar.specs.Limits.{BookFits, CertificateFits}
 use Rattle.grammar.specs.Listing.{book-fields, certificate-fields}
-use Rattle.layout.specs.Files.{refusal-at, certificate-of}
+use Rattle.layout.specs.Files.{certificate-of}
 
 -- ---- files that keep 01's layout and limits
 

@@ -5,29 +5,22 @@ use mathlib.Core.List.{List}
 use mathlib.Core.Bool.{cond}
 use lib.ListN.{length, replicate}
 use lib.Dec.{ltb}
+use Rattle.answers.specs.Carried.{refusal-at}
 use Rattle.patterns.specs.Refusal.{book-place, certificate-place, neither-place}
 use Rattle.patterns.specs.First.{Pace, one}
 use Rattle.patterns.specs.Judge.{Verdict, refuse, judge}
-use Rattle.layout.specs.Files.{Opened, good, bad, refusal-at, open-book, open-certificate}
-
--- 01, 2: "rule book over 16,384 bytes or certificate over 32,768"
-abbrev pub within : ℕ → ℕ → List ℕ → Verdict Pace → Verdict Pace
-within w most s rest = cond (ltb most (length s)) (refuse (refusal-at 2 w 0)) rest
-
--- a file's own refusal, or what its tree leads to
-abbrev pub where-good : {A : Type 0} → Opened A → (A → Verdict Pace) → Verdict Pace
-where-good (good a fs) rest = rest a
-where-good (bad r) rest = refuse r
+use Rattle.layout.specs.Files.{open-book, open-certificate, within-length, where-good}
 
 -- the whole book, then the whole certificate beside it, then its lines and its closing
 unfoldable pub judging-certificate : List ℕ → List ℕ → Verdict Pace
 judging-certificate book certificate =
-    where-good (open-book book) λ b. where-good (open-certificate b certificate) λ K. judge one (b .rules) K
+    where-good refuse (open-book book) λ b. where-good refuse (open-certificate b certificate) λ K. judge one (b .rules) K
 
 -- all but refusal 1
 unfoldable pub judging-files : List ℕ → List ℕ → Verdict Pace
 judging-files book certificate =
-    within book-place 16384 book (within certificate-place 32768 certificate (judging-certificate book certificate))
+    within-length refuse book-place 16384 book
+    (within-length refuse certificate-place 32768 certificate (judging-certificate book certificate))
 
 -- 01: "1 has W = 4", and A and B 0
 abbrev pub refusal-one : Verdict Pace

@@ -5,10 +5,10 @@ use mathlib.Core.List.{List, [], _∷_, _++_}
 use mathlib.Core.Bool.{cond}
 use lib.ListN.{length, take, drop}
 use lib.Dec.{ltb}
+use Rattle.answers.specs.Carried.{carried, Carries}
 use Rattle.patterns.specs.First.{Pace}
 use Rattle.patterns.specs.Refusal.{Refusal}
 use Rattle.patterns.specs.Judge.{Verdict, accept, refuse}
-use Rattle.layout.specs.Carried.{carried, Carries}
 use Rattle.layout.specs.Answers.{gives, output}
 use Rattle.verdicts.specs.Decimal.{decimal}
 

@@ -5,10 +5,10 @@ use mathlib.Core.List.{List, _∷_, _++_}
 use mathlib.Core.Bool.{cond}
 use lib.ListN.{length, take, drop, getD}
 use lib.Dec.{ltb}
+use Rattle.answers.specs.Carried.{refusal-at}
 use Rattle.patterns.specs.Refusal.{neither-place}
 use Rattle.patterns.specs.First.{Pace}
 use Rattle.patterns.specs.Judge.{Verdict, refuse}
-use Rattle.layout.specs.Files.{refusal-at}
 use Rattle.verdicts.specs.Judging.{judging-files, refusal-one, with-table, judging}
 use Rattle.verdicts.specs.Demands.{Acceptable}
 

@@ -1,27 +1,13 @@
-// The verdict of the judge, and the line that the program prints for it.
-use layout::Place;
-use layout::Refusal;
+// The line that the program prints for a verdict.
+use answers::Refusal;
+use answers::Verdict;
 ghost use mathlib.Core.Path.{_≡_};
 ghost use Prim.Native.Nat.{_+_, _≤_};
 ghost use lib.ListN.{length};
 ghost use Rattle.patterns.specs.Judge.{refuse};
-ghost use Rattle.layout.specs.Answers.{w-of, paper-refusal};
+ghost use Rattle.answers.specs.Numbers.{paper-refusal, paper-verdict};
 ghost use Rattle.verdicts.specs.Decimal.{decimal};
 ghost use Rattle.verdicts.specs.Lines.{spaced, sentence, line-of, put, Prints};
-ghost use Rattle.verdicts.specs.Verdicts.{paper};
-
-// A certificate that was accepted: the line that its closing names, the step k and the start α.
-pub struct Acceptance {
-    pub line: usize,
-    pub k: usize,
-    pub alpha: usize,
-}
-
-// What the judge answers.
-pub enum Verdict {
-    Accepted(Acceptance),
-    Refused(Refusal),
-}
 
 // How many decimal digits a number has.
 fn digits(n: usize) -> usize
@@ -119,26 +105,13 @@ fn put_sentence(word: &[u8], numbers: &[usize], out: &mut [u8]) -> usize
     n
 }
 
-// The number of what a refusal speaks of.
-pub fn place_number(place: Place) -> usize
-    ensures { λ r. ⌜ r ≡ w-of place ⌝ }
-{
-    match place {
-        Place::Book => 0,
-        Place::Certificate => 1,
-        Place::Line => 2,
-        Place::Closing => 3,
-        Place::Neither => 4,
-    }
-}
-
 // The line of a refusal: its number chooses which of A and B are told.
 fn refusal_line(refusal: Refusal, out: &mut [u8]) -> usize
     ensures { λ r. ⌜ Prints (line-of (refuse (paper-refusal refusal))) (now (out .entry)) r (now (out .exit)) ⌝ }
 {
     let number = refusal.number as usize;
-    let place = refusal.place;
-    let w = place_number(place);
+    let what = refusal.w;
+    let w = answers::w_number(what);
     match number {
         3..=7 => {
             let numbers = [number, w, refusal.a, 0];
@@ -157,7 +130,7 @@ fn refusal_line(refusal: Refusal, out: &mut [u8]) -> usize
 
 // The line of a verdict in the first places of `out`, and its length; where it does not fit, 0 and nothing is written.
 pub fn verdict_line(v: Verdict, out: &mut [u8]) -> usize
-    ensures { λ r. ⌜ Prints (line-of (paper v)) (now (out .entry)) r (now (out .exit)) ⌝ }
+    ensures { λ r. ⌜ Prints (line-of (paper-verdict v)) (now (out .entry)) r (now (out .exit)) ⌝ }
 {
     match v {
         Verdict::Accepted(a) => {

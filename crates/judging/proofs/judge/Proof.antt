@@ -1,8 +1,8 @@
 -- `judging::judge` meets its contract: refusal 1, or the verdict on both files with the table cleared.
+use Rattle.answers.specs.Numbers.{paper-verdict}
 use Rattle.judging.proofs.Inputs.{not-less, left-short, left-cleared}
 use Rattle.table.proofs.Comparing.{says-true, says-false}
 use Rattle.verdicts.proofs.Layers.{table-short, table-enough}
-use Rattle.verdicts.specs.Verdicts.{paper}
 use lib.ListN.{replicate}
 use mathlib.Core.Path.{sym, ap, _∙_}
 use borrow.Author.Needs.{needs}
@@ -31,7 +31,7 @@ same-length-2 : tie.Need-same-length-2
 same-length-2 c = search needs
 
 returns-2 : tie.Need-returns-2
-returns-2 c = let h = not-less (says-false _ (c .before .before .before .before .before .before .before .before .before .is-short .ensures) (c .before .before .before .before .before .before .before .before .if1 .left)) in record { book-bytes = λ i. c .before .before .before .before .before .before .before .before .before .before .before .before .before .shared-slice-known .given i .fits; bytes = λ i. c .before .before .before .before .before .before .before .before .before .before .before .before .shared-slice-known2 .given i .fits; answered = ap paper (c .before .before .cleared .ensures .0) ∙ c .before .before .before .before .before .before .judge-files .ensures .0 ∙ sym (table-enough _ _ _ h); cleared = left-cleared _ h (c .before .before .cleared .ensures .1 ∙ ap (λ n. replicate n 0) (c .before .before .before .before .before .before .judge-files .ensures .1)) }
+returns-2 c = let h = not-less (says-false _ (c .before .before .before .before .before .before .before .before .before .is-short .ensures) (c .before .before .before .before .before .before .before .before .if1 .left)) in record { book-bytes = λ i. c .before .before .before .before .before .before .before .before .before .before .before .before .before .shared-slice-known .given i .fits; bytes = λ i. c .before .before .before .before .before .before .before .before .before .before .before .before .shared-slice-known2 .given i .fits; answered = ap paper-verdict (c .before .before .cleared .ensures .0) ∙ c .before .before .before .before .before .before .judge-files .ensures .0 ∙ sym (table-enough _ _ _ h); cleared = left-cleared _ h (c .before .before .cleared .ensures .1 ∙ ap (λ n. replicate n 0) (c .before .before .before .before .before .before .judge-files .ensures .1)) }
 
 pub judge-spec : {M : Type 1} → statement M
 judge-spec =

@@ -1,29 +1,29 @@
 -- `judging::judge_files` meets its contract.
+use Rattle.answers.specs.Numbers.{paper-verdict, w-of}
 use Rattle.verdicts.proofs.Layers.{book-long, certificate-long, both-short, book-refused}
-use Rattle.verdicts.specs.Verdicts.{paper}
 use Rattle.layout.proofs.Answering.{opening-shut}
 use Rattle.layout.proofs.Besides.{few-rules, is-beside}
-use Rattle.layout.specs.Answers.{w-of}
 use lib.ListN.{length-take}
 use native.Mathlib.Omega.{arith}
 use mathlib.Core.Path.{refl, sym, _∙_}
+use Rattle.answers.proofs.Refusing.{refused-verdict}
 use borrow.Author.Needs.{needs}
 use Rattle.judging.proofs.judge_files.Statement.{statement}
 use Rattle.judging.proofs.judge_files.Tie as tie
 
-refused-requires : tie.Need-refused-requires
-refused-requires c κs = search needs
+whole-requires : tie.Need-whole-requires
+whole-requires c κs = search needs
 
 returns : tie.Need-returns
 unfolding w-of
-returns c = (c .refused .ensures ∙ sym (book-long _ _ (c .before .if1 .taken)), refl)
+returns c = (refused-verdict _ (c .whole .ensures) ∙ sym (book-long _ _ (c .before .if1 .taken)), refl)
 
-refused-requires-2 : tie.Need-refused-requires-2
-refused-requires-2 c κs = search needs
+whole-requires-2 : tie.Need-whole-requires-2
+whole-requires-2 c κs = search needs
 
 returns-2 : tie.Need-returns-2
 unfolding w-of
-returns-2 c = (c .refused2 .ensures ∙ sym (certificate-long _ _ (c .before .before .if1 .left) (c .before .if2 .taken)), refl)
+returns-2 c = (refused-verdict _ (c .whole2 .ensures) ∙ sym (certificate-long _ _ (c .before .before .if1 .left) (c .before .if2 .taken)), refl)
 
 slice-aggregate-open-book : tie.Need-slice-aggregate-open-book
 slice-aggregate-open-book c = search needs
@@ -47,7 +47,7 @@ judge-certificate-requires : tie.Need-judge-certificate-requires
 judge-certificate-requires c κs = (is-beside (c .before .before .before .before .before .before .open-book .ensures) (c .before .before .before .m .given .1) refl, omega (arith, c .before .before .before .before .before .before .before .before .if2 .left), c .before .before .before .before .before .before .before .before .before .before .before .before .before .pre)
 
 returns-3 : tie.Need-returns-3
-unfolding paper
+unfolding paper-verdict
 returns-3 c = (sym (both-short _ _ (c .before .before .before .before .before .before .before .if1 .left) (c .before .before .before .before .before .before .if2 .left) ∙ book-refused _ _ _ (opening-shut _ _ (c .before .before .before .before .open-book .ensures .told) (c .before .r .given .1))), refl)
 
 same-length : tie.Need-same-length
@@ -60,9 +60,9 @@ pub judge-files-spec : {M : Type 1} → statement M
 judge-files-spec =
     tie.close
     (tie.spec
-    refused-requires
+    whole-requires
     returns
-    refused-requires-2
+    whole-requires-2
     returns-2
     slice-aggregate-open-book
     open-book-requires

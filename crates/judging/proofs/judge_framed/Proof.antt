@@ -1,26 +1,27 @@
 -- `judging::judge_framed` meets its contract: one of the three ways of the framing at each return.
+use Rattle.answers.specs.Numbers.{w-of}
 use Rattle.judging.proofs.Inputs.{handed-parts}
 use Rattle.verdicts.proofs.Framing.{input-long, input-cut}
-use Rattle.layout.specs.Answers.{w-of}
 use native.Mathlib.Omega.{arith}
 use mathlib.Core.Path.{refl, sym, _∙_}
+use Rattle.answers.proofs.Refusing.{refused-verdict}
 use borrow.Author.Needs.{needs}
 use Rattle.judging.proofs.judge_framed.Statement.{statement}
 use Rattle.judging.proofs.judge_framed.Tie as tie
 
-refused-requires : tie.Need-refused-requires
-refused-requires c κs = search needs
+whole-requires : tie.Need-whole-requires
+whole-requires c κs = search needs
 
 returns : tie.Need-returns
 unfolding w-of
-returns c = (c .refused .ensures ∙ sym (input-long _ (c .before .if1 .taken)), refl)
+returns c = (refused-verdict _ (c .whole .ensures) ∙ sym (input-long _ (c .before .if1 .taken)), refl)
 
-refused-requires-2 : tie.Need-refused-requires-2
-refused-requires-2 c κs = search needs
+whole-requires-2 : tie.Need-whole-requires-2
+whole-requires-2 c κs = search needs
 
 returns-2 : tie.Need-returns-2
 unfolding w-of
-returns-2 c = (c .refused2 .ensures ∙ sym (input-cut _ (c .before .before .if1 .left) (omega arith)), refl)
+returns-2 c = (refused-verdict _ (c .whole2 .ensures) ∙ sym (input-cut _ (c .before .before .if1 .left) (omega arith)), refl)
 
 book-length-requires : tie.Need-book-length-requires
 book-length-requires c κs = search needs
@@ -28,12 +29,12 @@ book-length-requires c κs = search needs
 add-end : tie.Need-add-end
 add-end c = search needs
 
-refused-requires-3 : tie.Need-refused-requires-3
-refused-requires-3 c κs = search needs
+whole-requires-3 : tie.Need-whole-requires-3
+whole-requires-3 c κs = search needs
 
 returns-3 : tie.Need-returns-3
 unfolding w-of
-returns-3 c = (c .refused3 .ensures ∙ sym (input-cut _ (c .before .before .before .before .if1 .left) (omega arith)), refl)
+returns-3 c = (refused-verdict _ (c .whole3 .ensures) ∙ sym (input-cut _ (c .before .before .before .before .if1 .left) (omega arith)), refl)
 
 sub-judge-files : tie.Need-sub-judge-files
 sub-judge-files c = search needs
@@ -66,13 +67,13 @@ pub judge-framed-spec : {M : Type 1} → statement M
 judge-framed-spec =
     tie.close
     (tie.spec
-    refused-requires
+    whole-requires
     returns
-    refused-requires-2
+    whole-requires-2
     returns-2
     book-length-requires
     add-end
-    refused-requires-3
+    whole-requires-3
     returns-3
     sub-judge-files
     part-judge-files-start

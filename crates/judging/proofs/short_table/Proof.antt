@@ -1,15 +1,16 @@
 -- `judging::short_table` meets its contract.
-use Rattle.layout.specs.Answers.{w-of}
+use Rattle.answers.specs.Numbers.{w-of}
+use Rattle.answers.proofs.Refusing.{refused-verdict}
 use borrow.Author.Needs.{needs}
 use Rattle.judging.proofs.short_table.Statement.{statement}
 use Rattle.judging.proofs.short_table.Tie as tie
 
-refused-requires : tie.Need-refused-requires
-refused-requires c κs = search needs
+whole-requires : tie.Need-whole-requires
+whole-requires c κs = search needs
 
 returns : tie.Need-returns
 unfolding w-of
-returns c = c .refused .ensures
+returns c = refused-verdict _ (c .whole .ensures)
 
 pub short-table-spec : {M : Type 1} → statement M
-short-table-spec = tie.close (tie.spec refused-requires returns)
+short-table-spec = tie.close (tie.spec whole-requires returns)

@@ -1,16 +1,17 @@
+use Rattle.layout.proofs.GoodFiles.{packed-over, packed-short, packed-filled}
 -- `layout::pack_certificate` meets its contract.
 use mathlib.Core.Path.{_∙_}
 use mathlib.Core.List.{[]}
 use native.Mathlib.Omega.{arith}
+use Rattle.answers.specs.Numbers.{w-of}
 use Rattle.patterns.specs.Refusal.{certificate-place}
 use Rattle.terms.specs.Values.{nothing}
-use Rattle.layout.specs.declared.Place.the-variants.{Certificate}
+use Rattle.answers.specs.declared.W.the-variants.{Certificate}
 use Rattle.layout.specs.Files.{certificate-of}
-use Rattle.layout.specs.Answers.{w-of}
 use Rattle.layout.proofs.Besides.{few-counts, beside-ran}
-use Rattle.layout.proofs.Answering.{answers-shut, answers-refusal, answers-short, answers-filled, opening-shut, opening-good}
-use Rattle.layout.proofs.Opens.{in-list}
-use Rattle.layout.proofs.Giving.{list-told, writing-is, bad-written, good-over, good-written, good-bytes, packed-after}
+use Rattle.layout.proofs.Answering.{answers-shut, opening-shut, opening-good}
+use Rattle.layout.proofs.Giving.{list-told, writing-is, bad-written}
+use Rattle.answers.proofs.Refusing.{refused-answer}
 use borrow.Author.Needs.{needs}
 use Rattle.layout.proofs.pack_certificate.Statement.{statement}
 use Rattle.layout.proofs.pack_certificate.Tie as tie
@@ -36,25 +37,22 @@ enum-known-r c = search needs
 enum-known-k : tie.Need-enum-known-k
 enum-known-k c = search needs
 
-add-n : tie.Need-add-n
-add-n c = search needs
+bytes-for-requires : tie.Need-bytes-for-requires
+bytes-for-requires c κs = search needs
 
-add-n-2 : tie.Need-add-n-2
-add-n-2 c = search needs
-
-refused-requires : tie.Need-refused-requires
-refused-requires c κs = search needs
+whole-requires : tie.Need-whole-requires
+whole-requires c κs = search needs
 
 returns : tie.Need-returns
 unfolding w-of
-returns c = let g = opening-good _ _ (list-told _ (certificate-of (c .before .before .before .before .before .before .before .before .before .before .before .before .before .before .before .before .pre .tree)) nothing _ Certificate (beside-ran _ _ _ (c .before .before .before .before .before .before .before .before .before .before .before .before .before .before .before .before .pre) (c .before .before .before .before .before .before .before .before .certificate .ensures)) (c .before .before .before .before .before .opened-list .ensures)) (c .before .before .before .k .given .1) in answers-refusal _ _ _ _ (writing-is _ _ (c .before .before .before .before .before .before .before .before .before .before .before .before .before .before .before .before .pre) _ ∙ good-over g certificate-place 32768 (omega (arith, c .before .if1 .taken))) (c .refused .ensures)
+returns c = let g = opening-good _ _ (list-told _ (certificate-of (c .before .before .before .before .before .before .before .before .before .before .before .before .before .before .before .before .before .pre .tree)) nothing _ Certificate (beside-ran _ _ _ (c .before .before .before .before .before .before .before .before .before .before .before .before .before .before .before .before .before .pre) (c .before .before .before .before .before .before .before .before .before .certificate .ensures)) (c .before .before .before .before .before .before .opened-list .ensures)) (c .before .before .before .before .k .given .1) in packed-over certificate-place _ _ g 32768 (writing-is _ _ (c .before .before .before .before .before .before .before .before .before .before .before .before .before .before .before .before .before .pre) _) _ (omega (arith, c .before .if1 .taken, c .before .before .bytes-for .ensures)) (refused-answer _ (c .whole .ensures))
 
-refused-requires-2 : tie.Need-refused-requires-2
-refused-requires-2 c κs = search needs
+whole-requires-2 : tie.Need-whole-requires-2
+whole-requires-2 c κs = search needs
 
 returns-2 : tie.Need-returns-2
 unfolding w-of
-returns-2 c = let g = opening-good _ _ (list-told _ (certificate-of (c .before .before .before .before .before .before .before .before .before .before .before .before .before .before .before .before .before .pre .tree)) nothing _ Certificate (beside-ran _ _ _ (c .before .before .before .before .before .before .before .before .before .before .before .before .before .before .before .before .before .pre) (c .before .before .before .before .before .before .before .before .before .certificate .ensures)) (c .before .before .before .before .before .before .opened-list .ensures)) (c .before .before .before .before .k .given .1) in let e = good-bytes g in answers-short _ _ _ _ (writing-is _ _ (c .before .before .before .before .before .before .before .before .before .before .before .before .before .before .before .before .before .pre) _ ∙ good-written g certificate-place 32768 (omega (arith, c .before .before .if1 .left))) (omega (arith, c .before .if2 .taken)) (c .refused2 .ensures)
+returns-2 c = let g = opening-good _ _ (list-told _ (certificate-of (c .before .before .before .before .before .before .before .before .before .before .before .before .before .before .before .before .before .before .pre .tree)) nothing _ Certificate (beside-ran _ _ _ (c .before .before .before .before .before .before .before .before .before .before .before .before .before .before .before .before .before .before .pre) (c .before .before .before .before .before .before .before .before .before .before .certificate .ensures)) (c .before .before .before .before .before .before .before .opened-list .ensures)) (c .before .before .before .before .before .k .given .1) in packed-short certificate-place _ _ g 32768 (writing-is _ _ (c .before .before .before .before .before .before .before .before .before .before .before .before .before .before .before .before .before .before .pre) _) _ (omega (arith, c .before .before .if1 .left, c .before .before .before .bytes-for .ensures)) (omega (arith, c .before .if2 .taken, c .before .before .before .bytes-for .ensures)) (refused-answer _ (c .whole2 .ensures))
 
 slice-aggregate-certificate-4 : tie.Need-slice-aggregate-certificate-4
 slice-aggregate-certificate-4 c = search needs
@@ -63,7 +61,7 @@ slice-aggregate-certificate-5 : tie.Need-slice-aggregate-certificate-5
 slice-aggregate-certificate-5 c = search needs
 
 certificate-requires-2 : tie.Need-certificate-requires-2
-certificate-requires-2 c κs = few-counts _ [] _ (c .before .before .before .before .before .before .before .before .before .before .before .before .before .before .before .before .before .before .before .pre)
+certificate-requires-2 c κs = few-counts _ [] _ (c .before .before .before .before .before .before .before .before .before .before .before .before .before .before .before .before .before .before .before .before .pre)
 
 returns-3 : tie.Need-returns-3
 unfolding w-of
@@ -74,7 +72,7 @@ same-length c = search needs
 
 returns-4 : tie.Need-returns-4
 unfolding w-of
-returns-4 c = let g = opening-good _ _ (list-told _ (certificate-of (c .before .before .before .before .before .before .before .before .before .before .before .before .before .before .before .before .before .before .before .before .before .before .before .pre .tree)) nothing _ Certificate (beside-ran _ _ _ (c .before .before .before .before .before .before .before .before .before .before .before .before .before .before .before .before .before .before .before .before .before .before .before .pre) (c .before .before .before .before .before .before .before .before .before .before .before .before .before .before .before .certificate .ensures)) (c .before .before .before .before .before .before .before .before .before .before .before .before .opened-list .ensures)) (c .before .before .before .before .before .before .before .before .before .before .k .given .1) in let e = good-bytes g in answers-filled _ _ _ (writing-is _ _ (c .before .before .before .before .before .before .before .before .before .before .before .before .before .before .before .before .before .before .before .before .before .before .before .pre) _ ∙ good-written g certificate-place 32768 (omega (arith, c .before .before .before .before .before .before .before .before .if1 .left))) (omega (arith, c .before .before .before .before .before .before .before .if2 .left)) (omega arith) (packed-after (certificate-of (c .before .before .before .before .before .before .before .before .before .before .before .before .before .before .before .before .before .before .before .before .before .before .before .pre .tree)) (in-list certificate-place _ _ (g .is)) (beside-ran _ _ _ (c .before .before .before .before .before .before .before .before .before .before .before .before .before .before .before .before .before .before .before .before .before .before .before .pre) (c .before .before .before .certificate2 .ensures)) (omega (arith, c .before .before .before .before .before .before .before .if2 .left)) (omega (arith, c .before .before .before .before .before .before .before .before .if1 .left)))
+returns-4 c = let g = opening-good _ _ (list-told _ (certificate-of (c .before .before .before .before .before .before .before .before .before .before .before .before .before .before .before .before .before .before .before .before .before .before .before .before .pre .tree)) nothing _ Certificate (beside-ran _ _ _ (c .before .before .before .before .before .before .before .before .before .before .before .before .before .before .before .before .before .before .before .before .before .before .before .before .pre) (c .before .before .before .before .before .before .before .before .before .before .before .before .before .before .before .before .certificate .ensures)) (c .before .before .before .before .before .before .before .before .before .before .before .before .before .opened-list .ensures)) (c .before .before .before .before .before .before .before .before .before .before .before .k .given .1) in packed-filled certificate-place _ _ g 32768 (writing-is _ _ (c .before .before .before .before .before .before .before .before .before .before .before .before .before .before .before .before .before .before .before .before .before .before .before .before .pre) _) (c .before .before .before .before .before .before .before .before .before .bytes-for .ensures) (c .before .before .before .before .before .before .before .before .if1 .left) (omega arith) (c .before .before .before .before .before .before .before .if2 .left) (beside-ran _ _ _ (c .before .before .before .before .before .before .before .before .before .before .before .before .before .before .before .before .before .before .before .before .before .before .before .before .pre) (c .before .before .before .certificate2 .ensures))
 
 pub pack-certificate-spec : {M : Type 1} → statement M
 pack-certificate-spec =
@@ -87,11 +85,10 @@ pack-certificate-spec =
     opened-list-requires
     enum-known-r
     enum-known-k
-    add-n
-    add-n-2
-    refused-requires
+    bytes-for-requires
+    whole-requires
     returns
-    refused-requires-2
+    whole-requires-2
     returns-2
     slice-aggregate-certificate-4
     slice-aggregate-certificate-5

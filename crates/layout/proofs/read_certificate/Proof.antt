@@ -2,27 +2,28 @@
 use lib.ListN.{length-take}
 use mathlib.Core.Path.{refl, _∙_}
 use native.Mathlib.Omega.{arith}
-use Rattle.layout.specs.Answers.{w-of}
+use Rattle.answers.specs.Numbers.{w-of}
 use Rattle.layout.proofs.Besides.{few-rules, is-beside}
 use Rattle.layout.proofs.Answering.{answers-shut, answers-refusal, opening-shut}
 use Rattle.layout.proofs.Giving.{certificate-book-long, certificate-long, certificate-read, listing-bad}
+use Rattle.answers.proofs.Refusing.{refused-answer}
 use borrow.Author.Needs.{needs}
 use Rattle.layout.proofs.read_certificate.Statement.{statement}
 use Rattle.layout.proofs.read_certificate.Tie as tie
 
-refused-requires : tie.Need-refused-requires
-refused-requires c κs = search needs
+whole-requires : tie.Need-whole-requires
+whole-requires c κs = search needs
 
 returns : tie.Need-returns
 unfolding w-of
-returns c = record { book-bytes = λ i. c .before .before .before .before .shared-slice-known .given i .fits; bytes = λ i. c .before .before .before .shared-slice-known2 .given i .fits; answers = answers-refusal _ _ _ _ (certificate-book-long _ _ (c .before .if1 .taken)) (c .refused .ensures) }
+returns c = record { book-bytes = λ i. c .before .before .before .before .shared-slice-known .given i .fits; bytes = λ i. c .before .before .before .shared-slice-known2 .given i .fits; answers = answers-refusal _ _ _ _ (certificate-book-long _ _ (c .before .if1 .taken)) (refused-answer _ (c .whole .ensures)) }
 
-refused-requires-2 : tie.Need-refused-requires-2
-refused-requires-2 c κs = search needs
+whole-requires-2 : tie.Need-whole-requires-2
+whole-requires-2 c κs = search needs
 
 returns-2 : tie.Need-returns-2
 unfolding w-of
-returns-2 c = record { book-bytes = λ i. c .before .before .before .before .before .shared-slice-known .given i .fits; bytes = λ i. c .before .before .before .before .shared-slice-known2 .given i .fits; answers = answers-refusal _ _ _ _ (certificate-long _ _ (c .before .before .if1 .left) (c .before .if2 .taken)) (c .refused2 .ensures) }
+returns-2 c = record { book-bytes = λ i. c .before .before .before .before .before .shared-slice-known .given i .fits; bytes = λ i. c .before .before .before .before .shared-slice-known2 .given i .fits; answers = answers-refusal _ _ _ _ (certificate-long _ _ (c .before .before .if1 .left) (c .before .if2 .taken)) (refused-answer _ (c .whole2 .ensures)) }
 
 slice-aggregate-open-book : tie.Need-slice-aggregate-open-book
 slice-aggregate-open-book c = search needs
@@ -58,9 +59,9 @@ pub read-certificate-spec : {M : Type 1} → statement M
 read-certificate-spec =
     tie.close
     (tie.spec
-    refused-requires
+    whole-requires
     returns
-    refused-requires-2
+    whole-requires-2
     returns-2
     slice-aggregate-open-book
     open-book-requires

@@ -1,13 +1,16 @@
+use Rattle.layout.proofs.GoodFiles.{packed-over, packed-short, packed-filled}
 -- `layout::write_book` meets its contract.
 use native.Mathlib.Omega.{arith}
+use mathlib.Core.Path.{refl}
+use Rattle.answers.specs.Numbers.{w-of}
 use Rattle.patterns.specs.Refusal.{book-place}
 use Rattle.grammar.specs.Books.{a-book}
 use Rattle.books.specs.Counts.{ruleCount}
-use Rattle.layout.specs.declared.Place.the-variants.{Book}
-use Rattle.layout.specs.Answers.{w-of, writing-book}
-use Rattle.layout.proofs.Answering.{answers-shut, answers-refusal, answers-short, answers-filled, opening-shut, opening-good}
-use Rattle.layout.proofs.Opens.{in-list}
-use Rattle.layout.proofs.Giving.{list-told, bad-written, good-over, good-written, good-bytes, packed-after}
+use Rattle.answers.specs.declared.W.the-variants.{Book}
+use Rattle.layout.specs.Answers.{writing-book}
+use Rattle.layout.proofs.Answering.{answers-shut, opening-shut, opening-good}
+use Rattle.layout.proofs.Giving.{list-told, bad-written}
+use Rattle.answers.proofs.Refusing.{refused-answer}
 use borrow.Author.Needs.{needs}
 use Rattle.layout.proofs.write_book.Statement.{statement}
 use Rattle.layout.proofs.write_book.Tie as tie
@@ -36,25 +39,22 @@ enum-known-r c = search needs
 enum-known-k : tie.Need-enum-known-k
 enum-known-k c = search needs
 
-add-n : tie.Need-add-n
-add-n c = search needs
+bytes-for-requires : tie.Need-bytes-for-requires
+bytes-for-requires c κs = search needs
 
-add-n-2 : tie.Need-add-n-2
-add-n-2 c = search needs
-
-refused-requires : tie.Need-refused-requires
-refused-requires c κs = search needs
+whole-requires : tie.Need-whole-requires
+whole-requires c κs = search needs
 
 returns : tie.Need-returns
 unfolding w-of writing-book
-returns c = record { answers = let g = opening-good _ _ (list-told _ a-book ruleCount _ Book (c .before .before .before .before .before .before .before .before .before .book .ensures .0) (c .before .before .before .before .before .opened-list .ensures)) (c .before .before .before .k .given .1) in answers-refusal _ _ _ _ (good-over g book-place 16384 (omega (arith, c .before .if1 .taken))) (c .refused .ensures) }
+returns c = let g = opening-good _ _ (list-told _ a-book ruleCount _ Book (c .before .before .before .before .before .before .before .before .before .before .book .ensures .0) (c .before .before .before .before .before .before .opened-list .ensures)) (c .before .before .before .before .k .given .1) in record { answers = packed-over book-place a-book _ g 16384 refl _ (omega (arith, c .before .if1 .taken, c .before .before .bytes-for .ensures)) (refused-answer _ (c .whole .ensures)) }
 
-refused-requires-2 : tie.Need-refused-requires-2
-refused-requires-2 c κs = search needs
+whole-requires-2 : tie.Need-whole-requires-2
+whole-requires-2 c κs = search needs
 
 returns-2 : tie.Need-returns-2
 unfolding w-of writing-book
-returns-2 c = record { answers = let g = opening-good _ _ (list-told _ a-book ruleCount _ Book (c .before .before .before .before .before .before .before .before .before .before .book .ensures .0) (c .before .before .before .before .before .before .opened-list .ensures)) (c .before .before .before .before .k .given .1) in let e = good-bytes g in answers-short _ _ _ _ (good-written g book-place 16384 (omega (arith, c .before .before .if1 .left))) (omega (arith, c .before .if2 .taken)) (c .refused2 .ensures) }
+returns-2 c = let g = opening-good _ _ (list-told _ a-book ruleCount _ Book (c .before .before .before .before .before .before .before .before .before .before .before .book .ensures .0) (c .before .before .before .before .before .before .before .opened-list .ensures)) (c .before .before .before .before .before .k .given .1) in record { answers = packed-short book-place a-book _ g 16384 refl _ (omega (arith, c .before .before .if1 .left, c .before .before .before .bytes-for .ensures)) (omega (arith, c .before .if2 .taken, c .before .before .before .bytes-for .ensures)) (refused-answer _ (c .whole2 .ensures)) }
 
 slice-aggregate-book-5 : tie.Need-slice-aggregate-book-5
 slice-aggregate-book-5 c = search needs
@@ -77,7 +77,7 @@ same-length c = search needs
 
 returns-4 : tie.Need-returns-4
 unfolding w-of writing-book
-returns-4 c = record { answers = let g = opening-good _ _ (list-told _ a-book ruleCount _ Book (c .before .before .before .before .before .before .before .before .before .before .before .before .before .before .before .before .before .before .book .ensures .0) (c .before .before .before .before .before .before .before .before .before .before .before .before .before .before .opened-list .ensures)) (c .before .before .before .before .before .before .before .before .before .before .before .before .k .given .1) in let e = good-bytes g in answers-filled _ _ _ (good-written g book-place 16384 (omega (arith, c .before .before .before .before .before .before .before .before .before .before .if1 .left))) (omega (arith, c .before .before .before .before .before .before .before .before .before .if2 .left)) (omega arith) (packed-after a-book (in-list book-place a-book _ (g .is)) (c .before .before .before .before .book2 .ensures .0) (omega (arith, c .before .before .before .before .before .before .before .before .before .if2 .left)) (omega (arith, c .before .before .before .before .before .before .before .before .before .before .if1 .left))) }
+returns-4 c = let g = opening-good _ _ (list-told _ a-book ruleCount _ Book (c .before .before .before .before .before .before .before .before .before .before .before .before .before .before .before .before .before .before .before .book .ensures .0) (c .before .before .before .before .before .before .before .before .before .before .before .before .before .before .before .opened-list .ensures)) (c .before .before .before .before .before .before .before .before .before .before .before .before .before .k .given .1) in record { answers = packed-filled book-place a-book _ g 16384 refl (c .before .before .before .before .before .before .before .before .before .before .before .bytes-for .ensures) (c .before .before .before .before .before .before .before .before .before .before .if1 .left) (omega arith) (c .before .before .before .before .before .before .before .before .before .if2 .left) (c .before .before .before .before .book2 .ensures .0) }
 
 pub write-book-spec : {M : Type 1} → statement M
 write-book-spec =
@@ -91,11 +91,10 @@ write-book-spec =
     opened-list-requires
     enum-known-r
     enum-known-k
-    add-n
-    add-n-2
-    refused-requires
+    bytes-for-requires
+    whole-requires
     returns
-    refused-requires-2
+    whole-requires-2
     returns-2
     slice-aggregate-book-5
     slice-aggregate-book-6

@@ -2,20 +2,21 @@
 use lib.ListN.{length-take}
 use mathlib.Core.Path.{refl, _∙_}
 use native.Mathlib.Omega.{arith}
-use Rattle.layout.specs.Answers.{w-of}
+use Rattle.answers.specs.Numbers.{w-of}
 use Rattle.layout.proofs.Besides.{few-rules, is-beside}
 use Rattle.layout.proofs.Answering.{answers-shut, answers-refusal, opening-shut}
 use Rattle.layout.proofs.Giving.{writing-book-long, certificate-written, writing-bad}
+use Rattle.answers.proofs.Refusing.{refused-answer}
 use borrow.Author.Needs.{needs}
 use Rattle.layout.proofs.write_certificate.Statement.{statement}
 use Rattle.layout.proofs.write_certificate.Tie as tie
 
-refused-requires : tie.Need-refused-requires
-refused-requires c κs = search needs
+whole-requires : tie.Need-whole-requires
+whole-requires c κs = search needs
 
 returns : tie.Need-returns
 unfolding w-of
-returns c = record { book-bytes = λ i. c .before .before .before .before .shared-slice-known .given i .fits; answers = answers-refusal _ _ _ _ (writing-book-long _ _ (c .before .if1 .taken)) (c .refused .ensures) }
+returns c = record { book-bytes = λ i. c .before .before .before .before .shared-slice-known .given i .fits; answers = answers-refusal _ _ _ _ (writing-book-long _ _ (c .before .if1 .taken)) (refused-answer _ (c .whole .ensures)) }
 
 slice-aggregate-open-book : tie.Need-slice-aggregate-open-book
 slice-aggregate-open-book c = search needs
@@ -51,7 +52,7 @@ pub write-certificate-spec : {M : Type 1} → statement M
 write-certificate-spec =
     tie.close
     (tie.spec
-    refused-requires
+    whole-requires
     returns
     slice-aggregate-open-book
     open-book-requires

@@ -1,11 +1,11 @@
 -- `lines::accepted` meets its contract.
-use Rattle.verdicts.specs.Verdicts.{paper, paper-pace}
+use Rattle.answers.specs.Numbers.{paper-verdict, paper-pace}
 use mathlib.Core.Path.{refl}
 use Rattle.lines.proofs.accepted.Statement.{statement}
 use Rattle.lines.proofs.accepted.Tie as tie
 
 returns : tie.Need-returns
-unfolding paper paper-pace
+unfolding paper-verdict paper-pace
 returns c = refl
 
 pub accepted-spec : {M : Type 1} → statement M

@@ -1,6 +1,7 @@
 -- `lines::closing_by` meets its contract.
-use Rattle.layout.specs.Answers.{w-of}
+use Rattle.answers.specs.Numbers.{w-of}
 use Rattle.lines.proofs.Closings.{closing-fault, closing-good}
+use Rattle.answers.proofs.Refusing.{refused-verdict}
 use borrow.Author.Needs.{needs}
 use Rattle.lines.proofs.closing_by.Statement.{statement}
 use Rattle.lines.proofs.closing_by.Tie as tie
@@ -11,8 +12,8 @@ closing-parts-requires c κs = search needs
 enum-known-n : tie.Need-enum-known-n
 enum-known-n c = search needs
 
-refused-requires : tie.Need-refused-requires
-refused-requires c κs = search needs
+carried-requires : tie.Need-carried-requires
+carried-requires c κs = search needs
 
 enum-told : tie.Need-enum-told
 enum-told c = search needs
@@ -25,7 +26,7 @@ same-length c = search needs
 
 returns : tie.Need-returns
 unfolding w-of
-returns c = closing-fault (c .before .before .before .before .before .before .closing-parts .ensures) (c .before .before .n .given .1) (c .refused .ensures)
+returns c = closing-fault (c .before .before .before .before .before .before .closing-parts .ensures) (c .before .before .n .given .1) (refused-verdict _ (c .carried .ensures))
 
 same-length-2 : tie.Need-same-length-2
 same-length-2 c = search needs
@@ -39,7 +40,7 @@ closing-by-spec =
     (tie.spec
     closing-parts-requires
     enum-known-n
-    refused-requires
+    carried-requires
     enum-told
     accepted-requires
     same-length

@@ -2,8 +2,9 @@
 use Prim.Native.Nat.{_+_, _≤_}
 use mathlib.Core.Path.{_≡_, refl}
 use lib.ListN.{length}
-use Rattle.layout.specs.Answers.{w-of}
+use Rattle.answers.specs.Numbers.{w-of}
 use Rattle.lines.proofs.Going.{Goes, goes-here, goes-end, goes-fault, goes-on}
+use Rattle.answers.proofs.Refusing.{refused-verdict}
 use borrow.Author.Needs.{needs}
 use Rattle.lines.proofs.lines.Statement.{statement}
 use Rattle.lines.proofs.lines.Tie as tie
@@ -24,15 +25,15 @@ line-requires c κs = search needs
 enum-known-m : tie.Need-enum-known-m Inv-loop μ-loop
 enum-known-m c = search needs
 
-refused-requires : tie.Need-refused-requires Inv-loop μ-loop
-refused-requires c κs = search needs
+carried-requires : tie.Need-carried-requires Inv-loop μ-loop
+carried-requires c κs = search needs
 
 same-length : tie.Need-same-length Inv-loop μ-loop
 same-length c = search needs
 
 returns : tie.Need-returns Inv-loop μ-loop
 unfolding w-of
-returns c = goes-fault (c .before .before .before .before .before .before .before .before .before .loop .inv .2) (c .before .before .before .before .before .before .before .before .loop-test .taken) (c .before .before .before .before .before .before .before .before .before .loop .inv .1) (c .before .before .before .before .before .before .line .ensures) (c .before .before .m .given .1) (c .refused .ensures)
+returns c = goes-fault (c .before .before .before .before .before .before .before .before .before .loop .inv .2) (c .before .before .before .before .before .before .before .before .loop-test .taken) (c .before .before .before .before .before .before .before .before .before .loop .inv .1) (c .before .before .before .before .before .before .line .ensures) (c .before .before .m .given .1) (refused-verdict _ (c .carried .ensures))
 
 enum-known-end : tie.Need-enum-known-end Inv-loop μ-loop
 enum-known-end c = search needs
@@ -67,7 +68,7 @@ lines-spec =
     loop-holds
     line-requires
     enum-known-m
-    refused-requires
+    carried-requires
     same-length
     returns
     enum-known-end

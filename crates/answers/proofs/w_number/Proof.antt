@@ -1,8 +1,8 @@
--- `verdicts::place_number` meets its contract: a number for each place.
-use Rattle.layout.specs.Answers.{w-of}
+-- `answers::w_number` meets its contract: a number for each case.
+use Rattle.answers.specs.Numbers.{w-of}
 use borrow.Author.Needs.{needs}
-use Rattle.verdicts.proofs.place_number.Statement.{statement}
-use Rattle.verdicts.proofs.place_number.Tie as tie
+use Rattle.answers.proofs.w_number.Statement.{statement}
+use Rattle.answers.proofs.w_number.Tie as tie
 
 enum-told : tie.Need-enum-told
 enum-told c = search needs
@@ -39,8 +39,8 @@ returns-5 : tie.Need-returns-5
 unfolding w-of
 returns-5 c = search needs
 
-pub place-number-spec : {M : Type 1} → statement M
-place-number-spec =
+pub w-number-spec : {M : Type 1} → statement M
+w-number-spec =
     tie.close
     (tie.spec
     enum-told

@@ -5,6 +5,10 @@ use mathlib.Core.Bool.{Bool, _&&_, cond}
 use lib.Dec.{leb}
 use Rattle.patterns.specs.Refusal.{Refusal}
 
+-- a refusal with B = 0
+abbrev pub refusal-at : ℕ → ℕ → ℕ → Refusal
+refusal-at number w a = record { number = number; w = w; a = a; b = 0 }
+
 -- 01: "For 3 to 7, [..] A is the bit offset where the field begins [..] and B is 0."
 unfoldable pub of-a-field : ℕ → Bool
 of-a-field number = leb 3 number && leb number 7
@@ -16,9 +20,8 @@ of-a-part number = leb 9 number && leb number 16
 -- "Otherwise both are 0"
 unfoldable pub carried : ℕ → ℕ → ℕ → ℕ → Refusal
 carried number w a b =
-    cond (of-a-field number) (record { number = number; w = w; a = a; b = 0 })
-    (cond (of-a-part number) (record { number = number; w = w; a = a; b = b })
-    (record { number = number; w = w; a = 0; b = 0 }))
+    cond (of-a-field number) (refusal-at number w a)
+    (cond (of-a-part number) (record { number = number; w = w; a = a; b = b }) (refusal-at number w 0))
 
 -- a refusal that carries this and nothing else
 unfoldable pub Carries : Refusal → Type 0

@@ -5,9 +5,7 @@ use mathlib.Core.Bool.{Bool, true, false, _&&_, cond}
 use native.Mathlib.Omega.{arith}
 use borrow.Author.Tests.{le-leb, lt-leb}
 use lib.Dec.{leb}
-use Rattle.layout.specs.Files.{refusal-at}
-use Rattle.layout.specs.Carried.{of-a-field, of-a-part, carried}
-use Rattle.fields.proofs.Refusing.{Few}
+use Rattle.answers.specs.Carried.{refusal-at, of-a-field, of-a-part, carried}
 
 and-false : (b : Bool) → (b && false) ≡ false
 and-false true = refl
@@ -43,6 +41,3 @@ carried-nothing n w = go (of-a-field n) (of-a-part n)
     go true q = refl
     go false true = refl
     go false false = refl
-
-pub field-carried : {m : ℕ} (w a : ℕ) → Few m → carried m w a 0 ≡ refusal-at m w a
-field-carried w a h = carried-field w a 0 (h .0) (omega (arith, h .1))

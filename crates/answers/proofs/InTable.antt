@@ -11,10 +11,9 @@ use lib.Dec.{ltb}
 use lib.ListN.{getElem?}
 use Rattle.patterns.specs.Every.{Every}
 use Rattle.patterns.specs.Refusal.{Refusal, neither-place}
-use Rattle.layout.specs.Files.{refusal-at}
-use Rattle.layout.specs.Carried.{Carries}
-use Rattle.layout.proofs.Carrying.{carried-field, carried-part, carried-nothing}
-use Rattle.verdicts.specs.InTable.{Column, only, from-to, Allows, Row, row, InRow, Among, refusal-rows, InTable}
+use Rattle.answers.specs.Carried.{refusal-at, Carries}
+use Rattle.answers.proofs.Carrying.{carried-field, carried-part, carried-nothing}
+use Rattle.answers.specs.InTable.{Column, only, from-to, Allows, Row, row, InRow, Among, refusal-rows, InTable}
 
 -- ---- rows
 

@@ -1,10 +1,10 @@
--- `layout::carried` meets its contract: a match on the number.
+-- `answers::carried` meets its contract: a match on the number.
 use mathlib.Core.Path.{sym}
 use native.Mathlib.Omega.{arith}
-use Rattle.layout.specs.Answers.{paper-refusal}
-use Rattle.layout.proofs.Carrying.{carried-field, carried-part, carried-low, carried-between, carried-high}
-use Rattle.layout.proofs.carried.Statement.{statement}
-use Rattle.layout.proofs.carried.Tie as tie
+use Rattle.answers.specs.Numbers.{paper-refusal}
+use Rattle.answers.proofs.Carrying.{carried-field, carried-part, carried-low, carried-between, carried-high}
+use Rattle.answers.proofs.carried.Statement.{statement}
+use Rattle.answers.proofs.carried.Tie as tie
 
 returns : tie.Need-returns
 unfolding paper-refusal

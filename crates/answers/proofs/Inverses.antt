@@ -1,0 +1,79 @@
+-- 01's numbers tell the code's answers: the definitions that give them have an inverse, so no second answer has the same numbers.
+use Prim.Native.Nat.{ℕ}
+use mathlib.Core.Path.{_≡_, refl, sym, _∙_, ap}
+use mathlib.Core.List.{List, [], _∷_}
+use lib.ListN.{getD}
+use Rattle.patterns.specs.First.{Pace}
+use Rattle.patterns.specs.Refusal.{Refusal}
+use Rattle.patterns.specs.Judge.{Verdict, accept, refuse}
+use Rattle.answers.specs.declared.W.{W}
+use Rattle.answers.specs.declared.W.the-variants.{Book, Certificate, Line, Closing, Neither}
+use Rattle.answers.specs.declared.Refusal.{Refusal as Fault}
+use Rattle.answers.specs.declared.Verdict.{Verdict as Ruling}
+use Rattle.answers.specs.declared.Verdict.the-variants.{Accepted, Refused as Denied}
+use Rattle.answers.specs.declared.Answer.{Answer}
+use Rattle.answers.specs.declared.Answer.the-variants.{Filled, Refused}
+use Rattle.answers.specs.Numbers.{w-of, paper-refusal, paper-pace, paper-verdict, Told, filled-with, refused-with, paper-answer}
+
+-- what has an inverse tells its arguments apart
+pub inverse-tells : {A B : Type 0} (f : A → B) (g : B → A) → ((x : A) → g (f x) ≡ x) → (x y : A) → f x ≡ f y → x ≡ y
+inverse-tells f g back x y e = sym (back x) ∙ ap g e ∙ back y
+
+-- ---- W
+
+-- in the order of their numbers
+abbrev all-w : List W
+all-w = Book ∷ Certificate ∷ Line ∷ Closing ∷ Neither ∷ []
+
+abbrev w-at : ℕ → W
+w-at n = getD all-w n Neither
+
+w-back : (w : W) → w-at (w-of w) ≡ w
+unfolding w-of
+w-back Book = refl
+w-back Certificate = refl
+w-back Line = refl
+w-back Closing = refl
+w-back Neither = refl
+
+-- ---- a refusal
+
+abbrev code-refusal : Refusal → Fault
+code-refusal r = record { number = r .number; w = w-at (r .w); a = r .a; b = r .b }
+
+refusal-back : (r : Fault) → code-refusal (paper-refusal r) ≡ r
+unfolding paper-refusal
+refusal-back r = λ i. record { number = r .number; w = w-back (r .w) i; a = r .a; b = r .b }
+
+-- ---- a verdict, and what reading and writing answer
+
+abbrev code-verdict : Verdict Pace → Ruling
+code-verdict (accept line pace) = Accepted (record { line = line; k = pace .k; alpha = pace .α })
+code-verdict (refuse r) = Denied (code-refusal r)
+
+verdict-back : (v : Ruling) → code-verdict (paper-verdict v) ≡ v
+unfolding paper-verdict paper-pace
+verdict-back (Accepted a) = refl
+verdict-back (Denied r) = ap Denied (refusal-back r)
+
+abbrev code-answer : Told → Answer
+code-answer (filled-with n) = Filled n
+code-answer (refused-with r) = Refused (code-refusal r)
+
+answer-back : (a : Answer) → code-answer (paper-answer a) ≡ a
+unfolding paper-answer
+answer-back (Filled n) = refl
+answer-back (Refused r) = ap Refused (refusal-back r)
+
+-- Two answers with the same numbers are the same answer,
+pub answer-tells : (p q : Answer) → paper-answer p ≡ paper-answer q → p ≡ q
+answer-tells = inverse-tells paper-answer code-answer answer-back
+
+-- and two verdicts with the same numbers the same verdict.
+pub verdict-tells : (p q : Ruling) → paper-verdict p ≡ paper-verdict q → p ≡ q
+verdict-tells = inverse-tells paper-verdict code-verdict verdict-back
+
+-- Two verdicts with their tables, where 01's numbers and what is left are determined, are the same.
+pub one-verdict : {v : Verdict Pace} {left : List ℕ} (p q : Ruling) {after other : List ℕ}
+    → (paper-verdict p ≡ v) × (after ≡ left) → (paper-verdict q ≡ v) × (other ≡ left) → (p ≡ q) × (after ≡ other)
+one-verdict p q h k = (verdict-tells p q (h .0 ∙ sym (k .0)), h .1 ∙ sym (k .1))
