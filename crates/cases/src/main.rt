@@ -1,9 +1,9 @@
 // Runs the packed vectors that standard input holds, and prints a line for each: its name, the answer, and the sum of
 // what the call left in the memory lent to it.
 use answers::Answer;
+use answers::Verdict;
 use libc::STDIN_FILENO;
 use libc::STDOUT_FILENO;
-use answers::Verdict;
 ghost use mathlib.Core.Path.{_≡_};
 ghost use Prim.Native.Nat.{_≤_};
 ghost use lib.ListN.{length};
@@ -107,31 +107,34 @@ fn summed(sum: u64, n: u64) -> u64 {
     (31 * (sum % 65521) + n % 65521) % 65521
 }
 
-fn sum_of_numbers(left: &[u64]) -> u64 {
-    let mut sum = 0;
-    let mut i = 0;
-    while i < left.len() {
-        sum = summed(sum, left[i]);
-        i += 1;
-    }
-    sum
+fn field_number(v: u16) -> u64 {
+    v as u64
 }
 
-fn sum_of_fields(left: &[u16]) -> u64 {
-    let mut sum = 0;
-    let mut i = 0;
-    while i < left.len() {
-        sum = summed(sum, left[i] as u64);
-        i += 1;
-    }
-    sum
+fn byte_number(v: u8) -> u64 {
+    v as u64
 }
 
-fn sum_of_bytes(left: &[u8]) -> u64 {
+// What stands at a place of the memory that was lent; only one of the three was, and the others are empty.
+fn left_at(numbers: &[u64], fields: &[u16], bytes: &[u8], i: usize) -> u64 {
+    if i < numbers.len() {
+        return numbers[i];
+    }
+    if i < fields.len() {
+        return field_number(fields[i]);
+    }
+    if i < bytes.len() {
+        return byte_number(bytes[i]);
+    }
+    0
+}
+
+// The sum of the first n places.
+fn sum_of(numbers: &[u64], fields: &[u16], bytes: &[u8], n: usize) -> u64 {
     let mut sum = 0;
     let mut i = 0;
-    while i < left.len() {
-        sum = summed(sum, left[i] as u64);
+    while i < n {
+        sum = summed(sum, left_at(numbers, fields, bytes, i));
         i += 1;
     }
     sum
@@ -216,7 +219,9 @@ fn run_judge(operation: u8, room: u16, first: &[u8], second: &[u8]) {
     let n = room as usize;
     let work = &mut space[..n];
     print_verdict(judge_files(operation, first, second, work));
-    print_left(sum_of_numbers(work));
+    let fields = [0u16; 0];
+    let bytes = [0u8; 0];
+    print_left(sum_of(work, &fields, &bytes, n));
 }
 
 fn run_read(operation: u8, room: u16, first: &[u8], second: &[u8]) {
@@ -224,7 +229,9 @@ fn run_read(operation: u8, room: u16, first: &[u8], second: &[u8]) {
     let n = room as usize;
     let out = &mut space[..n];
     print_answer(read_files(operation, first, second, out));
-    print_left(sum_of_fields(out));
+    let numbers = [0u64; 0];
+    let bytes = [0u8; 0];
+    print_left(sum_of(&numbers, out, &bytes, n));
 }
 
 fn run_write(operation: u8, room: u16, first: &[u8], second: &[u8]) {
@@ -232,7 +239,9 @@ fn run_write(operation: u8, room: u16, first: &[u8], second: &[u8]) {
     let n = room as usize;
     let out = &mut space[..n];
     print_answer(write_files(operation, first, second, out));
-    print_left(sum_of_bytes(out));
+    let numbers = [0u64; 0];
+    let fields = [0u16; 0];
+    print_left(sum_of(&numbers, &fields, out, n));
 }
 
 fn run(operation: u8, room: u16, first: &[u8], second: &[u8]) {

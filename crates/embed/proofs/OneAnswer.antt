@@ -1,9 +1,11 @@
 -- No second answer and no second memory fit a promise of the door, and the five numbers tell which answer it is.
 use Prim.Native.Nat.{ℕ}
-use mathlib.Core.Path.{_≡_, sym, ap}
+use mathlib.Core.Path.{_≡_, refl, sym}
 use mathlib.Core.List.{List}
-use native.Mathlib.Omega.{arith}
-use lib.ListN.{length}
+use mathlib.Core.Bool.{cond}
+use lib.ListN.{length, getD}
+use lib.Dec.{eqb}
+use Rattle.answers.proofs.Inverses.{inverse-tells}
 use Rattle.answers.specs.Numbers.{Told, filled-with, refused-with}
 use Rattle.patterns.specs.First.{Pace}
 use Rattle.patterns.specs.Refusal.{Refusal}
@@ -23,34 +25,33 @@ pub one-judge-told : {book certificate work after other numbers others : List �
     → JudgeTold book certificate work other others → (numbers ≡ others) × (after ≡ other)
 one-judge-told p q = (cc, cc)
 
--- ---- no two answers, and no two verdicts, have the same numbers
+-- ---- the numbers have an inverse, so no two answers, and no two verdicts, have the same
 
-refusal-tells : (r t : Refusal) → refusal-numbers r ≡ refusal-numbers t → r ≡ t
-unfolding refusal-numbers
-refusal-tells r t e =
-    let a : r .number ≡ t .number = cc in
-    let b : r .w ≡ t .w = cc in
-    let c : r .a ≡ t .a = cc in
-    let d : r .b ≡ t .b = cc in
-    λ i. record { number = a i; w = b i; a = c i; b = d i }
+abbrev refusal-read : List ℕ → Refusal
+refusal-read ns = record { number = getD ns 1 0; w = getD ns 2 0; a = getD ns 3 0; b = getD ns 4 0 }
+
+abbrev answer-read : List ℕ → Told
+answer-read ns = cond (eqb (getD ns 0 0) 0) (filled-with (getD ns 1 0)) (refused-with (refusal-read ns))
+
+answer-back : (t : Told) → answer-read (answer-numbers t) ≡ t
+unfolding answer-numbers refusal-numbers
+answer-back (filled-with n) = refl
+answer-back (refused-with r) = refl
 
 pub answer-tells : (s t : Told) → answer-numbers s ≡ answer-numbers t → s ≡ t
-unfolding answer-numbers refusal-numbers
-answer-tells (filled-with n) (filled-with m) e = ap filled-with (cc)
-answer-tells (filled-with n) (refused-with r) e = let z : _≡_ {A = ℕ} 0 1 = cc in absurd (omega arith)
-answer-tells (refused-with r) (filled-with m) e = let z : _≡_ {A = ℕ} 1 0 = cc in absurd (omega arith)
-answer-tells (refused-with r) (refused-with t) e = ap refused-with (refusal-tells r t e)
+answer-tells = inverse-tells answer-numbers answer-read answer-back
+
+abbrev verdict-read : List ℕ → Verdict Pace
+verdict-read ns =
+    cond (eqb (getD ns 0 0) 0) (accept (getD ns 1 0) (record { k = getD ns 2 0; α = getD ns 3 0 })) (refuse (refusal-read ns))
+
+verdict-back : (v : Verdict Pace) → verdict-read (verdict-numbers v) ≡ v
+unfolding verdict-numbers refusal-numbers
+verdict-back (accept line pace) = refl
+verdict-back (refuse r) = refl
 
 pub verdict-tells : (v w : Verdict Pace) → verdict-numbers v ≡ verdict-numbers w → v ≡ w
-unfolding verdict-numbers refusal-numbers
-verdict-tells (accept l p) (accept m q) e =
-    let a : l ≡ m = cc in
-    let b : p .k ≡ q .k = cc in
-    let c : p .α ≡ q .α = cc in
-    λ i. accept (a i) record { k = b i; α = c i }
-verdict-tells (accept l p) (refuse t) e = let z : _≡_ {A = ℕ} 0 1 = cc in absurd (omega arith)
-verdict-tells (refuse r) (accept m q) e = let z : _≡_ {A = ℕ} 1 0 = cc in absurd (omega arith)
-verdict-tells (refuse r) (refuse t) e = ap refuse (refusal-tells r t e)
+verdict-tells = inverse-tells verdict-numbers verdict-read verdict-back
 
 -- ---- so what a caller reads out of the numbers is what the definitions give
 

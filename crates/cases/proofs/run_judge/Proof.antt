@@ -20,8 +20,14 @@ judge-files-requires c κs = search needs
 print-verdict-requires : tie.Need-print-verdict-requires
 print-verdict-requires c κs = search needs
 
-sum-of-numbers-requires : tie.Need-sum-of-numbers-requires
-sum-of-numbers-requires c κs = search needs
+slice-aggregate-sum-of : tie.Need-slice-aggregate-sum-of
+slice-aggregate-sum-of c = search needs
+
+slice-aggregate-sum-of-2 : tie.Need-slice-aggregate-sum-of-2
+slice-aggregate-sum-of-2 c = search needs
+
+sum-of-requires : tie.Need-sum-of-requires
+sum-of-requires c κs = search needs
 
 print-left-requires : tie.Need-print-left-requires
 print-left-requires c κs = search needs
@@ -38,6 +44,8 @@ run-judge-spec =
     slice-aggregate-work
     judge-files-requires
     print-verdict-requires
-    sum-of-numbers-requires
+    slice-aggregate-sum-of
+    slice-aggregate-sum-of-2
+    sum-of-requires
     print-left-requires
     returns)

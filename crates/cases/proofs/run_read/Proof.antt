@@ -20,8 +20,14 @@ read-files-requires c κs = search needs
 print-answer-requires : tie.Need-print-answer-requires
 print-answer-requires c κs = search needs
 
-sum-of-fields-requires : tie.Need-sum-of-fields-requires
-sum-of-fields-requires c κs = search needs
+slice-aggregate-sum-of : tie.Need-slice-aggregate-sum-of
+slice-aggregate-sum-of c = search needs
+
+slice-aggregate-sum-of-2 : tie.Need-slice-aggregate-sum-of-2
+slice-aggregate-sum-of-2 c = search needs
+
+sum-of-requires : tie.Need-sum-of-requires
+sum-of-requires c κs = search needs
 
 print-left-requires : tie.Need-print-left-requires
 print-left-requires c κs = search needs
@@ -38,6 +44,8 @@ run-read-spec =
     slice-aggregate-out
     read-files-requires
     print-answer-requires
-    sum-of-fields-requires
+    slice-aggregate-sum-of
+    slice-aggregate-sum-of-2
+    sum-of-requires
     print-left-requires
     returns)

@@ -20,8 +20,14 @@ write-files-requires c κs = search needs
 print-answer-requires : tie.Need-print-answer-requires
 print-answer-requires c κs = search needs
 
-sum-of-bytes-requires : tie.Need-sum-of-bytes-requires
-sum-of-bytes-requires c κs = search needs
+slice-aggregate-sum-of : tie.Need-slice-aggregate-sum-of
+slice-aggregate-sum-of c = search needs
+
+slice-aggregate-sum-of-2 : tie.Need-slice-aggregate-sum-of-2
+slice-aggregate-sum-of-2 c = search needs
+
+sum-of-requires : tie.Need-sum-of-requires
+sum-of-requires c κs = search needs
 
 print-left-requires : tie.Need-print-left-requires
 print-left-requires c κs = search needs
@@ -38,6 +44,8 @@ run-write-spec =
     slice-aggregate-out
     write-files-requires
     print-answer-requires
-    sum-of-bytes-requires
+    slice-aggregate-sum-of
+    slice-aggregate-sum-of-2
+    sum-of-requires
     print-left-requires
     returns)
