@@ -29,9 +29,9 @@ use Rattle.terms.proofs.term.Reads as term
 use Rattle.terms.proofs.term.Kinds as term-kinds
 use Rattle.terms.proofs.+applied+args+raised+term.Lts-term as term-lts
 use Rattle.fields.proofs.Cursor.take.Reads as take-reads
-use Rattle.terms.proofs.raise.Reads as raise-reads
-use Rattle.terms.proofs.symbol.Reads as symbol-reads
-use Rattle.terms.proofs.variable.Reads as variable-reads
+use Rattle.terms.proofs.heads.raise.Reads as raise-reads
+use Rattle.terms.proofs.heads.symbol.Reads as symbol-reads
+use Rattle.terms.proofs.heads.variable.Reads as variable-reads
 use Rattle.terms.proofs.+applied+args+raised+term.{statement}
 use Rattle.terms.proofs.+applied+args+raised+term.Tie.{close}
 
