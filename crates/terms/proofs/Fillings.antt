@@ -16,7 +16,7 @@ use Rattle.fields.specs.Kinds.{from-to}
 use Rattle.fields.specs.Kinds.{Kind as kind}
 use Rattle.fields.specs.Grammar.{done, bind, field}
 use Rattle.fields.specs.Run.{state, Ran}
-use Rattle.fields.proofs.Rounds.{Rounds}
+use Rattle.fields.proofs.Many.{Rounds}
 use Rattle.fields.proofs.Seqs.{found}
 use Rattle.fields.proofs.Always.{Always, always-bind, always-then, always-run, field-below}
 use Rattle.grammar.specs.Terms.{a-pair, pairs-of, any-term}

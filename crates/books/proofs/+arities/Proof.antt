@@ -31,13 +31,13 @@ module _ (t : ℕ) where
   claims = (take-reads.Asked, take-reads.Learnt, below, arities.Post)
 
   returns : lts.Need-returns claims here arities.Post
-  returns c = many-none arities-many _ (c .if1 .taken)
+  returns c = many-none arities-many _ 0 (c .if1 .taken)
 
   returns-2 : lts.Need-returns-2 claims here arities.Post
-  returns-2 c = many-some arities-many _ (c .before .before .before .before .before .before .before .before .before .before .if1 .left) (seq-no (c .before .before .before .before .before .before .before .take .ensures .ran _ _ (from-to-bounded kind.arity _ _)) _ (c .before .m .given .1))
+  returns-2 c = many-some arities-many _ 0 (c .before .before .before .before .before .before .before .before .before .before .if1 .left) (seq-no (c .before .before .before .before .before .before .before .take .ensures .ran _ _ (from-to-bounded kind.arity _ _)) _ (c .before .m .given .1))
 
   returns-3 : lts.Need-returns-3 claims here arities.Post
-  returns-3 c = many-some arities-many _ (c .before .before .before .before .before .before .before .before .before .before .before .before .before .before .before .before .before .if1 .left) (seq-on (c .before .before .before .before .before .before .before .before .before .before .before .before .before .before .take .ensures .ran _ _ (from-to-bounded kind.arity _ _)) _ (c .before .before .before .before .before .before .before .before .d .given .1) (λ a q. seq-last _ (λ l. refl) (c .before .before .before .before .arities .ensures)))
+  returns-3 c = many-some arities-many _ 0 (c .before .before .before .before .before .before .before .before .before .before .before .before .before .before .before .before .before .if1 .left) (seq-on (c .before .before .before .before .before .before .before .before .before .before .before .before .before .before .take .ensures .ran _ _ (from-to-bounded kind.arity _ _)) _ (c .before .before .before .before .before .before .before .before .d .given .1) (λ a q. seq-last _ (λ l. refl) (c .before .before .before .before .arities .ensures)))
 
   met : {M : Type 1} → lts.Closed claims here arities.Post M
   met = lts.spec claims here arities.Post

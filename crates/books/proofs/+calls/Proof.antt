@@ -1,7 +1,8 @@
 -- `books::calls` meets its contract: it takes a call, and calls itself with a smaller count for those behind it.
 use mathlib.Core.Path.{refl}
 use Rattle.fields.proofs.Seqs.{seq-no, seq-on, seq-last}
-use Rattle.books.proofs.Counting.{roots-none, roots-some}
+use Rattle.fields.proofs.Many.{many-none, many-some}
+use Rattle.books.proofs.Counting.{roots-many}
 use borrow.Author.Needs.{needs}
 use Prim.Native.Nat.{ℕ, _<_}
 use borrow.Fn.Kinds.{In}
@@ -28,13 +29,13 @@ module _ (t : ℕ) where
   claims = (root-term-reads.Asked, root-term-reads.Learnt, below, calls.Post)
 
   returns : lts.Need-returns claims here calls.Post
-  returns c = roots-none _ _ (c .if1 .taken)
+  returns c = many-none (roots-many _) _ 0 (c .if1 .taken)
 
   returns-2 : lts.Need-returns-2 claims here calls.Post
-  returns-2 c = roots-some _ _ (c .before .before .before .before .before .before .before .before .before .before .if1 .left) (seq-no (c .before .before .before .before .before .before .before .root-term .ensures) _ (c .before .m .given .1))
+  returns-2 c = many-some (roots-many _) _ 0 (c .before .before .before .before .before .before .before .before .before .before .if1 .left) (seq-no (c .before .before .before .before .before .before .before .root-term .ensures) _ (c .before .m .given .1))
 
   returns-3 : lts.Need-returns-3 claims here calls.Post
-  returns-3 c = roots-some _ _ (c .before .before .before .before .before .before .before .before .before .before .before .before .before .before .before .before .before .if1 .left) (seq-on (c .before .before .before .before .before .before .before .before .before .before .before .before .before .before .root-term .ensures) _ (c .before .before .before .before .before .before .before .before .d .given .1) (λ a q. seq-last _ (λ l. refl) (c .before .before .before .before .calls .ensures)))
+  returns-3 c = many-some (roots-many _) _ 0 (c .before .before .before .before .before .before .before .before .before .before .before .before .before .before .before .before .before .if1 .left) (seq-on (c .before .before .before .before .before .before .before .before .before .before .before .before .before .before .root-term .ensures) _ (c .before .before .before .before .before .before .before .before .d .given .1) (λ a q. seq-last _ (λ l. refl) (c .before .before .before .before .calls .ensures)))
 
   met : {M : Type 1} → lts.Closed claims here calls.Post M
   met = lts.spec claims here calls.Post

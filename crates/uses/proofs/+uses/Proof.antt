@@ -29,13 +29,13 @@ module _ (t : ℕ) where
   claims = (use-line-reads.Asked, use-line-reads.Learnt, below, uses.Post)
 
   returns : lts.Need-returns claims here uses.Post
-  returns c = many-none (uses-many _ _) _ (c .if1 .taken)
+  returns c = many-none (uses-many _ _) _ 0 (c .if1 .taken)
 
   returns-2 : lts.Need-returns-2 claims here uses.Post
-  returns-2 c = many-some (uses-many _ _) _ (c .before .before .before .before .before .before .before .before .before .before .if1 .left) (seq-no (c .before .before .before .before .before .before .before .use-line .ensures) _ (c .before .m .given .1))
+  returns-2 c = many-some (uses-many _ _) _ 0 (c .before .before .before .before .before .before .before .before .before .before .if1 .left) (seq-no (c .before .before .before .before .before .before .before .use-line .ensures) _ (c .before .m .given .1))
 
   returns-3 : lts.Need-returns-3 claims here uses.Post
-  returns-3 c = many-some (uses-many _ _) _ (c .before .before .before .before .before .before .before .before .before .before .before .before .before .before .before .before .before .if1 .left) (seq-on (c .before .before .before .before .before .before .before .before .before .before .before .before .before .before .use-line .ensures) _ (c .before .before .before .before .before .before .before .before .d .given .1) (λ u q. seq-last _ (λ us. refl) (c .before .before .before .before .uses .ensures)))
+  returns-3 c = many-some (uses-many _ _) _ 0 (c .before .before .before .before .before .before .before .before .before .before .before .before .before .before .before .before .before .if1 .left) (seq-on (c .before .before .before .before .before .before .before .before .before .before .before .before .before .before .use-line .ensures) _ (c .before .before .before .before .before .before .before .before .d .given .1) (λ u q. seq-last _ (λ us. refl) (c .before .before .before .before .uses .ensures)))
 
   met : {M : Type 1} → lts.Closed claims here uses.Post M
   met = lts.spec claims here uses.Post
