@@ -1,6 +1,6 @@
 -- Fields put one after the other build the packed bytes.
 -- Assumes nothing.
-use mathlib.Core.Path.{_≡_, refl, sym, ap, ap₂, _∙_}
+use mathlib.Core.Path.{_≡_, sym, ap, ap₂, _∙_}
 use mathlib.Core.List.{List, [], _∷_, _++_, append-nil, append-assoc}
 use mathlib.Core.Bool.{Bool, true, cond}
 use Prim.Native.Nat.{ℕ, _+_, _-_, _*_, _≤_, _<_}
@@ -68,17 +68,6 @@ module _ (fs : List (ℕ × ℕ)) (f : ℕ × ℕ) (out : List ℕ) (narrow : f 
   place-next = ap (λ (b : Bool). cond b (width fs + f .0) (width fs)) next-fits ∙ sym (width-one fs f)
 
 -- ---- a run of puts
-
--- a run is the same in two parts
-pub put-append : (s : List ℕ) (at : ℕ) (fs gs : List (ℕ × ℕ)) → putAll s at (fs ++ gs) ≡ putAll (putAll s at fs) (placeAll s at fs) gs
-unfolding putAll placeAll
-put-append s at [] gs = refl
-put-append s at (f ∷ fs) gs = put-append (putField s (f .0) (f .1) at) (placeAfter s (f .0) at) fs gs
-
-pub place-append : (s : List ℕ) (at : ℕ) (fs gs : List (ℕ × ℕ)) → placeAll s at (fs ++ gs) ≡ placeAll (putAll s at fs) (placeAll s at fs) gs
-unfolding putAll placeAll
-place-append s at [] gs = refl
-place-append s at (f ∷ fs) gs = place-append (putField s (f .0) (f .1) at) (placeAfter s (f .0) at) fs gs
 
 -- where no field is wider than 16 bits and there is room for all, a run behind packed fields gives the packed fields with those of the run
 pub put-all : (before fs : List (ℕ × ℕ)) (out : List ℕ) → Narrow fs → width before + width fs ≤ roomOf out

@@ -4,28 +4,15 @@ use mathlib.Core.Path.{_≡_, sym, ap, _∙_}
 use mathlib.Core.List.{List, [], _∷_, _++_}
 use mathlib.Core.Logic.{⊎-elim}
 use Prim.Native.Nat.{ℕ, suc, _+_, _-_, _*_, _/_, _%_, _^_, _≤_, _<_}
-use native.Mathlib.Nat.{add-zero, add-assoc}
 use native.Mathlib.Omega.{arith}
 use lib.ListN.{length, getD, List·getD-append, List·getD-eq-default}
 use lib.Seq.{getD-append-add}
 use Rattle.bits.specs.Bits.{Bytes, bitAt, bitsAt}
-use Rattle.bits.specs.Packed.{bitsOf, fieldBits, width, packed, Reads, Sized}
+use Rattle.bits.specs.Packed.{bitsOf, fieldBits, width, packed, Reads}
 use Rattle.bits.proofs.Numbers.{lt-or-ge}
-use Rattle.bits.proofs.Bytes.{bits-lt, zero-bits, bit-of-bits, same-bits}
+use Rattle.bits.proofs.Bytes.{zero-bits, bit-of-bits, same-bits}
 use Rattle.bits.proofs.PackedFields.{length-packed, packed-bytes, packed-bit}
 use Rattle.bits.proofs.Groups.{length-bitsOf, at-bitsOf, length-fieldBits}
-
--- what was read has no more bits than its width
-pub reads-sized : (s : List ℕ) (at : ℕ) (fs : List (ℕ × ℕ)) → Reads s at fs → Sized fs
-unfolding Reads Sized
-reads-sized s at [] r = tt
-reads-sized s at (f ∷ fs) r = (rw (r .0) at (bits-lt s at (f .0)), reads-sized s (at + f .0) fs (r .1))
-
--- fields read one after the other
-pub reads-append : (s : List ℕ) (at : ℕ) (fs gs : List (ℕ × ℕ)) → Reads s at fs → Reads s (at + width fs) gs → Reads s at (fs ++ gs)
-unfolding Reads width
-reads-append s at [] gs r q = rw (add-zero at) at q
-reads-append s at (f ∷ fs) gs r q = (r .0, reads-append s (at + f .0) fs gs (r .1) (rw (sym (add-assoc at (f .0) (width fs))) at q))
 
 -- fields that were read fix all bits that they take
 pub reads-bit : (s : List ℕ) (at : ℕ) (fs : List (ℕ × ℕ)) → Reads s at fs → (i : ℕ) → i < width fs → bitAt s (at + i) ≡ getD (fieldBits fs) i 0

@@ -1,20 +1,20 @@
 -- A field that was put: what each bit is then, that no other bytes are so, what no put changes, and that it is read back.
 -- Assumes nothing.
-use mathlib.Core.Path.{_≡_, refl, sym, ap, _∙_}
+use mathlib.Core.Path.{_≡_, sym, ap, _∙_}
 use mathlib.Core.List.{List, [], _∷_, _++_}
 use mathlib.Core.Logic.{⊎-elim}
-use mathlib.Core.Bool.{Bool, true, false, cond}
+use mathlib.Core.Bool.{Bool, cond}
 use Prim.Native.Nat.{ℕ, zero, suc, _+_, _-_, _*_, _%_, _^_, _≤_, _<_}
 use native.Mathlib.Omega.{arith}
 use lib.ListN.{length, getD, take, drop, length-append, length-drop, List·getD-append, List·getD-eq-default}
 use lib.Seq.{getD-append-add, getD-take, getD-drop, length-take-le}
-use Rattle.bits.specs.Bits.{Bytes, bitAt, bitsAt, fits, roomOf}
+use Rattle.bits.specs.Bits.{Bytes, bitAt, bitsAt, roomOf}
 use Rattle.bits.specs.Packed.{bitsOf, bytesFor, bytesOf}
 use Rattle.bits.specs.Put.{bitsIn, putBits, putField, Puts}
 use Rattle.bits.proofs.Numbers.{lt-or-ge}
 use Rattle.bits.proofs.Bytes.{bits-of, bit-append, bit-append-add, bit-drop, bit-lt, same-bits}
 use Rattle.bits.proofs.Groups.{Binary, binary-append, binary-take, binary-bitsOf, length-bitsOf, at-bitsOf, at-bitsIn, length-bitsIn, length-bytesOf, bytesOf-bytes, bytesOf-bit}
-use Rattle.bits.proofs.Fitting.{fits-yes, fits-both}
+use Rattle.bits.proofs.Fitting.{fits-yes}
 
 -- ---- what each bit is
 
@@ -85,22 +85,6 @@ puts-only s at w v t u p q = same-bits t u (p .long ∙ sym (q .long)) (p .small
         (lt-or-ge i at)
 
 -- ---- what no put changes
-
-pub length-putField : (s : List ℕ) (w v at : ℕ) → length (putField s w v at) ≡ length s
-unfolding putField
-length-putField s w v at = go (fits s w at) refl
-  where
-    go : (b : Bool) → fits s w at ≡ b → length (cond b (putBits s at w v) s) ≡ length s
-    go true e = length-putBits s at w v (omega (arith, fits-both s w at e))
-    go false e = refl
-
-pub putField-bytes : (s : List ℕ) (w v at : ℕ) → Bytes s → Bytes (putField s w v at)
-unfolding putField
-putField-bytes s w v at small = go (fits s w at) refl
-  where
-    go : (b : Bool) → fits s w at ≡ b → Bytes (cond b (putBits s at w v) s)
-    go true e = put-puts s at w v (omega (arith, fits-both s w at e)) small .small
-    go false e = small
 
 -- ---- a field that was put is read back
 

@@ -1,5 +1,5 @@
 -- The grammars of a book that ask for n things, how many calls a rule has, and what is noted of it.
-use Prim.Native.Nat.{ℕ, zero, suc, _+_, _-_, _<_, _≤_}
+use Prim.Native.Nat.{ℕ, _+_, _-_, _<_, _≤_}
 use mathlib.Core.Path.{_≡_, refl, sym, _∙_, ap, subst}
 use mathlib.Core.List.{List, [], _∷_}
 use mathlib.Core.Logic.{_≢_}
@@ -16,36 +16,33 @@ use Rattle.fields.specs.Kinds.{Kind as kind}
 use Rattle.fields.specs.Grammar.{Grammar, done, bind, field}
 use Rattle.fields.specs.Run.{State, state, Result, run, Ran}
 use Rattle.fields.specs.Run.Result.{ok, no}
-use Rattle.fields.proofs.Seqs.{go-on, run-bind, found, refused, ran-ok, ran-no, ran-done}
+use Rattle.fields.proofs.Seqs.{go-on, run-bind, found, refused, ran-ok, ran-no}
 use Rattle.fields.proofs.Always.{Always, always-bind, always-then, always-run, always-weaken, field-below}
-use Rattle.fields.proofs.Many.{Many, many-length}
+use Rattle.fields.proofs.Many.{Many, none-left, some-left, many-length}
 use Rattle.grammar.specs.Terms.{root-term}
 use Rattle.grammar.specs.Books.{arities-of, roots-of, a-rule-of, a-rule, rules-of}
 use Rattle.terms.specs.Values.{nothing}
 use Rattle.grammar.specs.Limits.{call-counts}
 use Rattle.books.specs.Counts.{noted, callsOf, rulesOf, Counted}
 
-pub arities-many : Many arities-of (field kind.arity (from-to 0 9))
+pub arities-many : Many arities-of (field kind.arity (from-to 0 9)) (λ a. a)
 unfolding arities-of
-arities-many = record { none = refl; more = λ n. refl }
+arities-many = record { none = λ x. refl; more = λ n x. refl }
 
-pub rules-many : (ar : ℕ → ℕ) → Many (rules-of ar) (a-rule ar)
+pub rules-many : (ar : ℕ → ℕ) → Many (rules-of ar) (a-rule ar) (λ r. r)
 unfolding rules-of
-rules-many ar = record { none = refl; more = λ n. refl }
+rules-many ar = record { none = λ x. refl; more = λ n x. refl }
+
+pub roots-many : (ar : ℕ → ℕ) → Many (roots-of ar) (root-term ar) (λ g. g .term)
+unfolding roots-of
+roots-many ar = record { none = λ x. refl; more = λ n x. refl }
 
 -- a rule's calls are as many as were asked for
-roots-length : (ar : ℕ → ℕ) (n : ℕ) → Always (λ ts. length ts ≡ n) (roots-of ar n)
-unfolding roots-of Always
-roots-length ar zero = refl
-roots-length ar (suc n) =
-    always-then (λ ts. length ts ≡ suc n) _ (root-term ar)
-    (λ g. always-bind (λ ts. length ts ≡ n) (λ ts. length ts ≡ suc n) _ (roots-of ar n) (roots-length ar n) (λ ts h. omega arith))
-
 rule-calls : (ar : ℕ → ℕ) (n : ℕ) → Always (λ r. callsOf r ≡ n) (a-rule-of ar n)
 unfolding a-rule-of Always
 rule-calls ar n =
     always-then (λ r. callsOf r ≡ n) _ (root-term ar)
-    (λ g. always-bind (λ ts. length ts ≡ n) (λ r. callsOf r ≡ n) _ (roots-of ar n) (roots-length ar n) (λ ts h. h))
+    (λ g. always-bind (λ ts. length ts ≡ n) (λ r. callsOf r ≡ n) _ (roots-of ar n) (many-length (roots-of ar) (root-term ar) (λ g. g .term) (roots-many ar) n) (λ ts h. h))
 
 -- so the walk may hand back that number
 pub rule-counted : {src : Source} (ar : ℕ → ℕ) (n : ℕ) {c d : Cursor} {ws bs ws₁ bs₁ : List ℕ} {r : Walk} {v : ℕ}
@@ -68,45 +65,20 @@ rule-few {src} ar {c} {d} {ws} {bs} {ws₁} {bs₁} h e =
     (λ v k. always-weaken (λ r. callsOf r ≡ v) (λ r. callsOf r ≤ 8) (λ r q. omega arith) (a-rule-of ar v) (rule-calls ar v)))
     (state c ws bs) (x .0) (state d ws₁ bs₁) (x .2))
 
-module _ {src : Source} (ar : ℕ → ℕ) (n : ℕ) {c : Cursor} {ws bs : List ℕ} where
-  pub roots-none : n ≡ 0 → Ran src (roots-of ar n) c ws bs nothing (On 0 c) ws bs
-  unfolding roots-of
-  roots-none h = go n h
-    where
-      go : (n : ℕ) → n ≡ 0 → Ran src (roots-of ar n) c ws bs nothing (On 0 c) ws bs
-      go zero h = ran-done _ c ws bs
-      go (suc n) h = absurd (omega arith)
-
-pub roots-some : {src : Source} (ar : ℕ → ℕ) (n : ℕ) {c : Cursor} {ws bs ws₁ bs₁ : List ℕ} {r : Walk} → n ≢ 0
-    → Ran src (bind (root-term ar) λ g. bind (roots-of ar (n - 1)) λ ts. done (g .term ∷ ts)) c ws bs nothing r ws₁ bs₁
-    → Ran src (roots-of ar n) c ws bs nothing r ws₁ bs₁
-unfolding roots-of
-roots-some ar zero h k = absurd (h refl)
-roots-some ar (suc n) h k = let e : suc n - 1 ≡ n = omega arith in rw e at k
-
 -- ---- what is noted
 
 -- what the first rule and the rest come to
 rules-step : (src : Source) (ar : ℕ → ℕ) (n : ℕ) (σ : State) → n ≢ 0
     → run src (rules-of ar n) σ ≡ go-on src (λ r. bind (rules-of ar (n - 1)) λ rs. done (r ∷ rs)) (run src (a-rule ar) σ)
-unfolding rules-of
-rules-step src ar zero σ h = absurd (h refl)
-rules-step src ar (suc n) σ h =
-    let e : n ≡ suc n - 1 = omega arith in
-    run-bind src (λ r. bind (rules-of ar n) λ rs. done (r ∷ rs)) (a-rule ar) σ
-    ∙ ap (λ j. go-on src (λ r. bind (rules-of ar j) λ rs. done (r ∷ rs)) (run src (a-rule ar) σ)) e
+rules-step src ar n σ h = ap (λ p. run src p σ) (some-left (rules-many ar) n 0 h) ∙ run-bind src _ (a-rule ar) σ
 
 module _ {src : Source} (ar : ℕ → ℕ) (n k : ℕ) {c : Cursor} {ws bs cs : List ℕ} where
   pub counted-none : n ≡ 0 → Counted src (rules-of ar n) (state c ws bs) k cs cs
   unfolding rules-of run noted call-counts
-  counted-none h = go n h
+  counted-none h = rw (none-left (rules-many ar) n 0 h) (record { all = λ rs τ e. rw (empty rs τ e) refl })
     where
       empty : (rs : Book Exp) (τ : State) → _≡_ {A = Result (Book Exp)} (ok [] (state c ws bs)) (ok rs τ) → rs ≡ []
       empty rs τ e = cc
-
-      go : (n : ℕ) → n ≡ 0 → Counted src (rules-of ar n) (state c ws bs) k cs cs
-      go zero h = record { all = λ rs τ e. rw (empty rs τ e) refl }
-      go (suc n) h = absurd (omega arith)
 
   module _ {r : Walk} {ws₁ bs₁ : List ℕ} (first : Ran src (a-rule ar) c ws bs callsOf r ws₁ bs₁) {m : ℕ} {d : Cursor} (some : n ≢ 0) where
     pub counted-no : r ≡ No m d → Counted src (rules-of ar n) (state c ws bs) k cs cs
@@ -155,7 +127,7 @@ module _ {src : Source} (ar : ℕ → ℕ) (n : ℕ) {c d : Cursor} {ws bs ws₁
       let x = found h e in
       ran-ok (x .2)
       (sym
-      (always-run (λ rs. rulesOf rs ≡ n) src (rules-of ar n) (many-length (rules-of ar) (a-rule ar) (rules-many ar) n) (state c ws bs)
+      (always-run (λ rs. rulesOf rs ≡ n) src (rules-of ar n) (many-length (rules-of ar) (a-rule ar) (λ r. r) (rules-many ar) n) (state c ws bs)
       (x .0) (state d ws₁ bs₁) (x .2)))
 
   pub rules-refused : {m : ℕ} → r ≡ No m d → Ran src (rules-of ar n) c ws bs rulesOf (No m d) ws₁ bs₁

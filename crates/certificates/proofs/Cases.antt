@@ -17,7 +17,7 @@ use Rattle.fields.specs.Kinds.{Kind as kind}
 use Rattle.fields.specs.Grammar.{done, bind, field}
 use Rattle.fields.specs.Run.{Ran}
 use Rattle.fields.proofs.Runs.{field-bad, field-refused, field-in}
-use Rattle.fields.proofs.Rounds.{Rounds}
+use Rattle.fields.proofs.Many.{Rounds}
 use Rattle.grammar.specs.Terms.{any-term}
 use Rattle.grammar.specs.Certificates.{a-right-if, an-unfold, a-descent, a-kind, a-line, lines-of}
 

@@ -1,5 +1,5 @@
 -- What is true of every tree that a grammar gives, whatever the source.
-use Prim.Native.Nat.{ℕ, _≤_, _<_}
+use Prim.Native.Nat.{ℕ, _<_}
 use mathlib.Core.Path.{_≡_, refl, subst}
 use mathlib.Core.List.{List}
 use mathlib.Core.Option.{Option, none, some}
@@ -61,11 +61,6 @@ pub always-weaken : {A : Type 0} (P Q : A → Type 0) → ((a : A) → P a → Q
 unfolding Always
 always-weaken P Q f (done a) h = f a h
 always-weaken P Q f (ask k r next) h = λ v t. always-weaken P Q f (next v) (h v t)
-
--- a field lies between its bounds
-pub field-between : (k : Kind) (least end : ℕ) → Always (λ v. (least ≤ v) × (v < end)) (field k (from-to least end))
-unfolding Always field
-field-between k least end v t = within-none least end 4 v t
 
 pub field-below : (k : Kind) (least end : ℕ) → Always (λ v. v < end) (field k (from-to least end))
 unfolding Always field

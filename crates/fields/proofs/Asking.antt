@@ -1,11 +1,8 @@
 -- What is true of every field that a grammar can ask for: one grammar after the other, and where fields have led.
-use Prim.Native.Nat.{ℕ}
-use mathlib.Core.List.{List}
 use mathlib.Core.Bool.{Bool, true, false, cond}
 use Rattle.fields.specs.Kinds.{Kind, Range}
 use Rattle.fields.specs.Grammar.{Grammar, done, ask, bind, field}
 use Rattle.fields.specs.Asks.{Asks}
-use Rattle.fields.specs.Faults.{Led, here, past}
 
 module _ (P : Kind → Range → Type 0) where
   pub asks-bind : {A B : Type 0} (p : Grammar A) (f : A → Grammar B) → Asks P p → ((a : A) → Asks P (f a)) → Asks P (bind p f)
@@ -30,10 +27,3 @@ module _ (P : Kind → Range → Type 0) where
   pub asks-two : {A B C : Type 0} (p : Grammar A) (q : A → Grammar B) (mk : A → B → C) → Asks P p → ((a : A) → Asks P (q a))
       → Asks P (bind p λ a. bind (q a) λ b. done (mk a b))
   asks-two p q mk h k = asks-bind p _ h (λ a. asks-one (q a) (mk a) (k a))
-
-  -- the field that comes next, wherever fields have led
-  pub led-asks : {A : Type 0} {p : Grammar A} {fs : List (ℕ × ℕ)} {k : Kind} {r : Range} {next : ℕ → Grammar A} → Led p fs (ask k r next)
-      → Asks P p → P k r
-  unfolding Asks
-  led-asks here h = h .0
-  led-asks (past {v = v} g l) h = led-asks l (h .1 v)

@@ -1,5 +1,5 @@
 -- One grammar after the other: `bind` is associative, its outcome and its trace are those of the parts, and a run ends past the fields of its trace.
-use mathlib.Core.Path.{_≡_, refl, sym, ap, ap₂, _∙_, fun-ext}
+use mathlib.Core.Path.{_≡_, refl, sym, ap₂, _∙_}
 use mathlib.Core.List.{List, [], _∷_, _++_}
 use Prim.Native.Nat.{ℕ, _+_}
 use native.Mathlib.Omega.{arith}
@@ -8,22 +8,12 @@ use Rattle.bits.specs.Packed.{width}
 use Rattle.fields.specs.declared.Cursor.{Cursor}
 use Rattle.fields.specs.Source.{Source, onward}
 use Rattle.fields.specs.Kinds.{bits}
-use Rattle.fields.specs.Grammar.{Grammar, done, ask, bind, Outcome, outcome, trace}
+use Rattle.fields.specs.Grammar.{Grammar, bind, Outcome, outcome, trace}
 use Rattle.fields.specs.Grammar.Outcome.{ok, no}
-use Rattle.fields.proofs.Ways.{Way, way, way-to, way-ends, way-passes}
+use Rattle.fields.proofs.Ways.{Way, way, way-to, way-ends}
 use Rattle.fields.proofs.Ways.Way.{over, bad, refused, pass}
 
 -- ---- the laws of `bind`
-
-pub bind-assoc : {A B C : Type 0} (p : Grammar A) (f : A → Grammar B) (g : B → Grammar C) → bind (bind p f) g ≡ bind p (λ a. bind (f a) g)
-unfolding bind
-bind-assoc (done a) f g = refl
-bind-assoc (ask k r next) f g = ap (ask k r) (fun-ext (λ v. bind-assoc (next v) f g))
-
-pub bind-done : {A : Type 0} (p : Grammar A) → bind p done ≡ p
-unfolding bind
-bind-done (done a) = refl
-bind-done (ask k r next) = ap (ask k r) (fun-ext (λ v. bind-done (next v)))
 
 -- ---- the way of a grammar that follows another
 
@@ -44,14 +34,8 @@ module _ {A B : Type 0} (src : Source) (p : Grammar A) (f : A → Grammar B) (c 
   pub outcome-bind : {a : A} {d : Cursor} → outcome src p c ≡ ok a d → outcome src (bind p f) c ≡ outcome src (f a) d
   outcome-bind {a} {d} e = way-ends (way-bind f (way-to e) (way src (f a) d))
 
-  pub trace-bind : {a : A} {d : Cursor} → outcome src p c ≡ ok a d → trace src (bind p f) c ≡ trace src p c ++ trace src (f a) d
-  trace-bind {a} {d} e = way-passes (way-bind f (way-to e) (way src (f a) d))
-
   pub outcome-bind-no : {m : ℕ} {d : Cursor} → outcome src p c ≡ no m d → outcome src (bind p f) c ≡ no m d
   outcome-bind-no e = way-ends (way-bind-no f (way-to e))
-
-  pub trace-bind-no : {m : ℕ} {d : Cursor} → outcome src p c ≡ no m d → trace src (bind p f) c ≡ trace src p c
-  trace-bind-no e = way-passes (way-bind-no f (way-to e))
 
 -- ---- the parts of a good run of both
 

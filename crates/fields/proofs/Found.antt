@@ -19,10 +19,9 @@ use Rattle.fields.proofs.Ways.{Way, way, way-to, way-ends, way-passes}
 use Rattle.fields.proofs.Ways.Way.{over, bad, refused, pass}
 use Rattle.fields.proofs.Binds.{after, after-none, after-pass, end-ok}
 use Rattle.fields.proofs.Sinks.{values}
-use Rattle.fields.proofs.Spelled.{spells-sized}
 use Rattle.fields.proofs.Gives.{Gives, Reached, reached-narrow, narrow-reached, gives-reached, gives-sized}
 use Rattle.fields.proofs.Gives.{gives-reads, gives-room, reads-give}
-use Rattle.fields.proofs.Gives.{gives-stands, stands-give, stands-take, stands-within, take-stands}
+use Rattle.fields.proofs.Gives.{gives-stands, stands-take, stands-within}
 
 -- ---- any source
 
@@ -101,11 +100,3 @@ module _ {A : Type 0} (s l : List ℕ) (p : Grammar A) (c : Cursor) where
 
   pub trace-within : c .listed ≡ true → c .n ≤ length l → c .n + length (trace (from s l) p c) ≤ length l
   trace-within b k = stands-within l (c .n) (trace (from s l) p c) k (gives-stands s l c (trace (from s l) p c) b trace-given)
-
-  pub end-within : {a : A} {d : Cursor} → outcome (from s l) p c ≡ ok a d → c .listed ≡ true → c .n ≤ length l → d .n ≤ length l
-  end-within e b k = rw (end-ok (from s l) p c e) (trace-within b k)
-
-  pub list-found : (a : A) (fs : List (ℕ × ℕ)) → c .listed ≡ true → Spells p a fs → Narrow fs → take (length fs) (drop (c .n) l) ≡ values fs
-      → c .n + length fs ≤ 2 ^ 32 → c .bit + width fs < 2 ^ 32 → Found (from s l) p c a fs
-  list-found a fs b h narrow e few near =
-      spells-found (from s l) p a c fs h (stands-give s l c fs b (narrow-reached c fs narrow few near) (spells-sized p a fs h) (take-stands l (c .n) fs e))

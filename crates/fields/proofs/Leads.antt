@@ -1,5 +1,5 @@
 -- Where a grammar is led by fields that stand in a source, and why it stops there.
-use Prim.Native.Nat.{ℕ, _*_, _^_, _≤_, _<_}
+use Prim.Native.Nat.{ℕ, _^_, _≤_, _<_}
 use mathlib.Core.Path.{_≡_, ap, _∙_, subst}
 use mathlib.Core.List.{List, [], _∷_}
 use mathlib.Core.Option.{none, some}
@@ -47,11 +47,6 @@ module _ {A : Type 0} where
   unfolding width
   led-few here = omega arith
   led-few (past {k = k} h l) = let b = bits-few k .0 in let n = led-few l in omega arith
-
-  pub led-wide : {p q : Grammar A} {fs : List (ℕ × ℕ)} → Led p fs q → width fs ≤ 16 * length fs
-  unfolding width
-  led-wide here = omega arith
-  led-wide (past {k = k} h l) = let b = bits-few k .1 in let n = led-wide l in omega arith
 
 -- ---- from a run to where it was led
 

@@ -1,6 +1,6 @@
 -- Grammars of n things, one after the other, as a function that calls itself meets them.
 use Prim.Native.Nat.{ℕ, zero, suc, _-_}
-use mathlib.Core.Path.{_≡_, refl, sym, subst}
+use mathlib.Core.Path.{_≡_, refl, _∙_, ap}
 use mathlib.Core.List.{List, [], _∷_}
 use mathlib.Core.Logic.{_≢_}
 use native.Mathlib.Omega.{arith}
@@ -14,33 +14,48 @@ use Rattle.fields.specs.Run.{Ran}
 use Rattle.fields.proofs.Seqs.{ran-done}
 use Rattle.fields.proofs.Always.{Always, always-bind, always-then}
 
--- `many n` asks for n things, each by `one`
-pub record Many {A : Type 0} (many : ℕ → Grammar (List A)) (one : Grammar A) : Type 0 where
-  pub none : many 0 ≡ done []
-  pub more : (n : ℕ) → many (suc n) ≡ bind one λ a. bind (many n) λ l. done (a ∷ l)
+-- a grammar by a number, which asks for nothing at 0
+module _ {B : Type 0} (p : ℕ → Grammar B) where
+  pub at-none : (b : B) → p 0 ≡ done b → (n : ℕ) → n ≡ 0 → p n ≡ done b
+  at-none b z n e = ap p e ∙ z
 
-module _ {A : Type 0} {many : ℕ → Grammar (List A)} {one : Grammar A} (M : Many many one) {src : Source} {val : List A → ℕ} {c : Cursor} {ws bs : List ℕ} where
-  pub many-none : (n : ℕ) → n ≡ 0 → Ran src (many n) c ws bs val (On (val []) c) ws bs
-  many-none n e =
-      subst (λ k. Ran src (many k) c ws bs val (On (val []) c) ws bs) (sym e)
-      (subst (λ p. Ran src p c ws bs val (On (val []) c) ws bs) (sym (M .none)) (ran-done [] c ws bs))
+  pub at-some : (q : ℕ → Grammar B) → ((n : ℕ) → p (suc n) ≡ q n) → (n : ℕ) → n ≢ 0 → p n ≡ q (n - 1)
+  at-some q s zero h = absurd (h refl)
+  at-some q s (suc n) h = let e : n ≡ suc n - 1 = omega arith in s n ∙ ap q e
 
-  pub many-some : (n : ℕ) {r : Walk} {ws₁ bs₁ : List ℕ} → n ≢ 0
-      → Ran src (bind one λ a. bind (many (n - 1)) λ l. done (a ∷ l)) c ws bs val r ws₁ bs₁
-      → Ran src (many n) c ws bs val r ws₁ bs₁
-  many-some zero h k = absurd (h refl)
-  many-some (suc n) {r} {ws₁} {bs₁} h k =
-      let e : suc n - 1 ≡ n = omega arith in
-      subst (λ p. Ran src p c ws bs val r ws₁ bs₁) (sym (M .more n))
-      (subst (λ j. Ran src (bind one λ a. bind (many j) λ l. done (a ∷ l)) c ws bs val r ws₁ bs₁) e k)
+-- `many n x` asks for n things, the first by `one x`; what was found says the x of the next
+pub record Rounds {A B : Type 0} (many : ℕ → ℕ → Grammar B) (one : ℕ → Grammar A) (next : ℕ → A → ℕ) (join : A → B → B) (end : ℕ → B) : Type 0 where
+  pub none : (x : ℕ) → many 0 x ≡ done (end x)
+  pub more : (n x : ℕ) → many (suc n) x ≡ bind (one x) λ a. bind (many n (next x a)) λ b. done (join a b)
+
+-- `many n` asks for a list of n things, each by `one`; nothing is carried on
+abbrev pub Many : {A B : Type 0} → (ℕ → Grammar (List B)) → Grammar A → (A → B) → Type 0
+Many many one of = Rounds (λ n x. many n) (λ x. one) (λ x a. x) (λ a l. of a ∷ l) (λ x. [])
+
+module _ {A B : Type 0} {many : ℕ → ℕ → Grammar B} {one : ℕ → Grammar A} {next : ℕ → A → ℕ} {join : A → B → B} {end : ℕ → B} (R : Rounds many one next join end) (n x : ℕ) where
+  pub none-left : n ≡ 0 → many n x ≡ done (end x)
+  none-left e = at-none (λ k. many k x) (end x) (R .none x) n e
+
+  pub some-left : n ≢ 0 → many n x ≡ bind (one x) λ a. bind (many (n - 1) (next x a)) λ b. done (join a b)
+  some-left h =
+      at-some (λ k. many k x) (λ k. bind (one x) λ a. bind (many k (next x a)) λ b. done (join a b)) (λ k. R .more k x) n h
+
+  module _ {src : Source} {val : B → ℕ} {c : Cursor} {ws bs : List ℕ} where
+    pub many-none : n ≡ 0 → Ran src (many n x) c ws bs val (On (val (end x)) c) ws bs
+    many-none e = rw (none-left e) (ran-done (end x) c ws bs)
+
+    pub many-some : {r : Walk} {ws₁ bs₁ : List ℕ} → n ≢ 0
+        → Ran src (bind (one x) λ a. bind (many (n - 1) (next x a)) λ b. done (join a b)) c ws bs val r ws₁ bs₁
+        → Ran src (many n x) c ws bs val r ws₁ bs₁
+    many-some h k = rw (some-left h) k
 
 -- there are n of them
-pub many-length : {A : Type 0} (many : ℕ → Grammar (List A)) (one : Grammar A) → Many many one → (n : ℕ)
+pub many-length : {A B : Type 0} (many : ℕ → Grammar (List B)) (one : Grammar A) (of : A → B) → Many many one of → (n : ℕ)
     → Always (λ l. length l ≡ n) (many n)
 unfolding Always
-many-length many one M zero = rw (M .none) refl
-many-length many one M (suc n) =
-    rw (M .more n)
+many-length many one of M zero = rw (M .none 0) refl
+many-length many one of M (suc n) =
+    rw (M .more n 0)
     (always-then (λ l. length l ≡ suc n) _ one
-    (λ a. always-bind (λ l. length l ≡ n) (λ l. length l ≡ suc n) _ (many n) (many-length many one M n)
+    (λ a. always-bind (λ l. length l ≡ n) (λ l. length l ≡ suc n) _ (many n) (many-length many one of M n)
     (λ l h. omega arith)))

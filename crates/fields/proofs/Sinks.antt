@@ -57,10 +57,6 @@ module _ {A : Type 0} (src : Source) (p : Grammar A) (c : Cursor) (ws bs : List 
       → run src p (state c ws bs) ≡ Result.ok a (state d (sets ws (c .n) (trace src p c)) (puts bs (c .bit) (trace src p c)))
   run-ok e = way-run ws bs (way-to e)
 
-  pub run-no : {m : ℕ} {d : Cursor} → outcome src p c ≡ no m d
-      → run src p (state c ws bs) ≡ Result.no m (state d (sets ws (c .n) (trace src p c)) (puts bs (c .bit) (trace src p c)))
-  run-no e = way-run ws bs (way-to e)
-
 -- ---- the outputs
 
 sets-values : (ws : List ℕ) (n : ℕ) (fs : List (ℕ × ℕ)) → sets ws n fs ≡ setAll ws n (values fs)

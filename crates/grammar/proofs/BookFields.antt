@@ -16,7 +16,8 @@ use Rattle.grammar.specs.Limits.{RootFits, RuleFits, BookFits, call-coun
 use Rattle.grammar.specs.Listing.{Fields, term-fields, arity-fields, signature-fields, rule-fields, book-fields}
 use Rattle.grammar.proofs.Spelling.{bind-made}
 use Rattle.grammar.proofs.Exactness.{Exactly, exact, refit, same, any-exactly, from-to-exactly, both, keyed, no-more, more}
-use Rattle.grammar.proofs.TermFields.{Signature, root-exactly}
+use Rattle.grammar.proofs.SymbolFields.{Signature}
+use Rattle.grammar.proofs.TermFields.{root-exactly}
 
 -- ---- the arities
 

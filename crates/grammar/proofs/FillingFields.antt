@@ -13,7 +13,8 @@ use Rattle.grammar.specs.Limits.{TermFits, Rising, FillsFit}
 use Rattle.grammar.specs.Listing.{pair-fields, filling-fields}
 use Rattle.grammar.proofs.Spelling.{bind-made}
 use Rattle.grammar.proofs.Exactness.{Exactly, refit, same, from-to-exactly, both, keyed, no-more, more}
-use Rattle.grammar.proofs.TermFields.{Signature, any-exactly}
+use Rattle.grammar.proofs.SymbolFields.{Signature}
+use Rattle.grammar.proofs.TermFields.{any-exactly}
 
 module _ (arities : List ℕ) (sig : Signature arities) where
   pub pair-exactly : (least : ℕ)

@@ -2,9 +2,13 @@
 pub mod Spelling
 pub mod Exactness
 pub mod AllStated
+pub mod SymbolFields
+pub mod Growing
 pub mod TermFields
 pub mod FillingFields
 pub mod BookFields
+pub mod UseFields
+pub mod LineFields
 pub mod CertificateFields
 pub mod OneToOne
 pub mod FixedBooks

@@ -1,184 +1,27 @@
 -- The grammar of terms spells just the terms within the limits, each by its own fields.
 use Prim.Native.Nat.{ℕ, zero, suc, _+_, _-_, _≤_, _<_}
-use mathlib.Core.Path.{_≡_, refl, sym, ap}
+use mathlib.Core.Path.{_≡_, refl, ap}
 use mathlib.Core.Logic.{_≢_}
 use mathlib.Core.List.{List, [], _∷_}
 use native.Mathlib.Omega.{arith}
 use lib.ListN.{length}
 use Rattle.patterns.specs.Term.{Terms, var, fun, pow, nil, cons, size, size*}
 use Rattle.patterns.specs.Counters.{more, alone}
-use Rattle.patterns.specs.Normal.{Over, Normal, Normal*}
-use Rattle.patterns.specs.Formed.{arguments, Formed, Formed*}
-use Rattle.patterns.specs.Every.{Every}
-use Rattle.patterns.specs.First.{Exp, ex, Pattern, exponents}
-use Rattle.fields.specs.Kinds.{applied, unary, beside, node, InRange, Unnormal, Spent}
+use Rattle.patterns.specs.Normal.{Over, Normal}
+use Rattle.patterns.specs.Formed.{arguments, Formed}
+use Rattle.patterns.specs.First.{Exp, Pattern, exponents}
+use Rattle.fields.specs.Kinds.{node, InRange, Unnormal, Spent}
 use Rattle.fields.specs.Kinds.{Kind as kind}
 use Rattle.fields.proofs.Ranges.{passes-exactly}
-use Rattle.fields.specs.Grammar.{Grammar, done, bind, field}
+use Rattle.fields.specs.Grammar.{Grammar, bind, field}
 use Rattle.fields.specs.Spells.{Spells}
-use Rattle.grammar.specs.Terms.{a-symbol, a-unary, an-exponent, Grown, GrownAll, args-of, a-variable, an-applied, a-raise, a-raised, a-node, a-term, any-term, root-term}
+use Rattle.grammar.specs.Terms.{Grown, GrownAll, args-of, a-variable, an-applied, a-raised, a-node, a-term, any-term, root-term}
 use Rattle.grammar.specs.Books.{arity-in}
-use Rattle.grammar.specs.Limits.{Ranged, Ranged*, TermFits, Rooted, RootFits}
+use Rattle.grammar.specs.Limits.{Ranged, TermFits, RootFits}
 use Rattle.grammar.specs.Listing.{Fields, term-fields, terms-fields}
-use Rattle.grammar.proofs.Exactness.{Exactly, refit, field-exactly, any-exactly as bits-exactly, from-to-exactly, done-exactly, made, after, both}
-
--- ---- the arities
-
--- a list of arities as a rule book has it
-pub record Signature (arities : List ℕ) : Type 0 where
-  pub small : Every (λ a. a ≤ 8) arities
-  pub count : length arities < 256
-
-listed-arity : (arities : List ℕ) → Every (λ a. a ≤ 8) arities → (f : ℕ) → f < length arities → arity-in arities f ≤ 8
-unfolding Every arity-in
-listed-arity [] h f k = absurd (omega arith)
-listed-arity (a ∷ l) h zero k = h .0
-listed-arity (a ∷ l) h (suc f) k = listed-arity l (h .1) f (omega arith)
-
-known-symbol : (arities : List ℕ) (f : ℕ) → arity-in arities f ≤ 8 → f < length arities
-unfolding arity-in
-known-symbol [] f k = absurd (omega arith)
-known-symbol (a ∷ l) zero k = omega arith
-known-symbol (a ∷ l) (suc f) k = let r = known-symbol l f k in omega arith
-
--- ---- a symbol's field and a power's fields
-
-nonzero-forth : (a b : ℕ) → ¬ ((a ≡ 0) × (b ≡ 0)) → ex a b ≢ ex 0 0
-nonzero-forth a b h p = h (ap (λ (x : Exp). x .0) p, ap (λ (x : Exp). x .1) p)
-
-nonzero-back : (a b : ℕ) → ex a b ≢ ex 0 0 → ¬ ((a ≡ 0) × (b ≡ 0))
-nonzero-back a b h p = h (λ i. ex (p .0 i) (p .1 i))
-
-pub exponent-exactly : (end : ℕ) → end ≤ 4096
-    → Exactly (an-exponent end) (λ e. (e .0 < end) × (e .1 < 4096) × (e ≢ ex 0 0)) (λ e. (12, e .0) ∷ (12, e .1) ∷ [])
-unfolding an-exponent InRange Unnormal Spent
-exponent-exactly end h =
-    both
-    (from-to-exactly kind.power-a 0 end (omega arith))
-    (λ a k. field-exactly kind.power-b (beside a))
-    (λ a b. (a, b))
-    (λ a b k l. ((k .1, l .0, nonzero-forth a b (passes-exactly (beside a) b .0 (l .1) .2)), refl))
-    (λ e k. (
-      e .0,
-      e .1,
-      (omega arith, k .0),
-      (k .1, passes-exactly (beside (e .0)) (e .1) .1 ((λ z. z), tt, nonzero-back (e .0) (e .1) (k .2))),
-      refl,
-    ))
-
--- a power's symbol and exponent, below the symbol `above`
-unfoldable pub Raises : List ℕ → ℕ → ℕ → ℕ × Exp → Type 0
-Raises arities end above p =
-    (arity-in arities (p .0) ≡ 1) × (p .0 < length arities) × (above ≢ p .0) × (p .1 .0 < end) × (p .1 .1 < 4096) × (p .1 ≢ ex 0 0)
-
-module _ (arities : List ℕ) (sig : Signature arities) where
-  pub symbol-exactly : Exactly (a-symbol (arity-in arities)) (λ f. (arity-in arities f ≢ 1) × (f < length arities)) (λ f. (8, f) ∷ [])
-  unfolding a-symbol InRange Unnormal Spent
-  symbol-exactly =
-      refit
-      (field-exactly kind.symbol (applied (arity-in arities)))
-      (λ f h. let r = passes-exactly (applied (arity-in arities)) f .0 (h .1) .1 in (r .0, known-symbol arities f (r .1)))
-      (λ f h.
-      let c = sig .count in
-      let l = h .1 in (
-        omega arith,
-        passes-exactly (applied (arity-in arities)) f .1 ((λ z. z), (h .0, listed-arity arities (sig .small) f l), (λ z. z)),
-      ))
-
-  pub raise-exactly : (end above : ℕ) → end ≤ 4096
-      → Exactly (a-raise (arity-in arities) end above) (Raises arities end above) (λ p. (8, p .0) ∷ (12, p .1 .0) ∷ (12, p .1 .1) ∷ [])
-  unfolding a-raise a-unary Raises InRange Unnormal Spent
-  raise-exactly end above h =
-      both
-      (field-exactly kind.power-symbol (unary (arity-in arities) above))
-      (λ s k. exponent-exactly end h)
-      (λ s e. (s, e))
-      (λ s e k l.
-      let r = passes-exactly (unary (arity-in arities) above) s .0 (k .1) in
-      let a = r .1 in
-      ((a, known-symbol arities s (omega arith), (λ z. r .2 (sym z)), l .0, l .1, l .2), refl))
-      (λ p k.
-      let c = sig .count in
-      let l = k .1 in (
-        p .0,
-        p .1,
-        (omega arith, passes-exactly (unary (arity-in arities) above) (p .0) .1 ((λ z. z), k .0, (λ z. k .2 (sym z)))),
-        (k .3, k .4, k .5),
-        refl,
-      ))
-
--- ---- nodes
-
-size-positive : (t : Pattern) → 1 ≤ size t
-unfolding size
-size-positive (var x) = omega arith
-size-positive (fun f ts) = omega arith
-size-positive (pow s e t) = omega arith
-
--- the root's tag, and the fields behind it
-unfoldable pub tag : Pattern → ℕ
-tag (var x) = 0
-tag (fun f ts) = 1
-tag (pow s e t) = 2
-
-unfoldable pub behind-tag : Pattern → Fields
-behind-tag (var x) = (6, x) ∷ []
-behind-tag (fun f ts) = (8, f) ∷ terms-fields ts
-behind-tag (pow s e t) = (8, s) ∷ (12, e .0) ∷ (12, e .1) ∷ term-fields t
-
-tag-before : (t : Pattern) → (2, tag t) ∷ behind-tag t ≡ term-fields t
-unfolding tag behind-tag term-fields
-tag-before (var x) = refl
-tag-before (fun f ts) = refl
-tag-before (pow s e t) = refl
-
-tag-below : (t : Pattern) → tag t < 3
-unfolding tag
-tag-below (var x) = omega arith
-tag-below (fun f ts) = omega arith
-tag-below (pow s e t) = omega arith
-
-module _ (arities : List ℕ) (end : ℕ) where
-  -- what the grammar of a term gives: a term within the limits that takes all but `g .left` of the nodes allowed
-  pub record Grows (above left : ℕ) (g : Grown) : Type 0 where
-    pub room : g .left + size (g .term) ≡ left
-    pub normal : Normal exponents (g .term)
-    pub free : ¬ (Over above (g .term))
-    pub formed : Formed (arity-in arities) (g .term)
-    pub ranged : Ranged (length arities) end (g .term)
-
-  pub record GrowsAll (n left : ℕ) (g : GrownAll) : Type 0 where
-    pub room : g .left + size* (g .terms) ≡ left
-    pub normal : Normal* exponents (g .terms)
-    pub formed : Formed* (arity-in arities) (g .terms)
-    pub ranged : Ranged* (length arities) end (g .terms)
-    pub count : arguments (g .terms) ≡ n
-
-  -- a node of the tag n, and what stands below it
-  unfoldable pub Node : ℕ → ℕ → ℕ → Grown → Type 0
-  Node n above left g = (tag (g .term) ≡ n) × Grows above (suc left) g
-
-abbrev grown : Pattern → ℕ → Grown
-grown t left = record { term = t; left = left }
-
-abbrev grown-all : Terms Exp → ℕ → GrownAll
-grown-all ts left = record { terms = ts; left = left }
-
-abbrev pub grown-fields : Grown → Fields
-grown-fields g = term-fields (g .term)
-
-abbrev pub all-fields : GrownAll → Fields
-all-fields g = terms-fields (g .terms)
-
-unfoldable pub below-tag : Grown → Fields
-below-tag g = behind-tag (g .term)
-
--- a symbol of the table is none of the power above, if that is 256
-free-of-256 : (count end : ℕ) → count < 256 → (t : Pattern) → Ranged count end t → ¬ (Over 256 t)
-unfolding Ranged Over
-free-of-256 count end h (var x) r o = o
-free-of-256 count end h (fun f ts) r o = o
-free-of-256 count end h (pow s e t) r o = let l = r .0 in omega arith
+use Rattle.grammar.proofs.Exactness.{Exactly, refit, field-exactly, any-exactly as bits-exactly, done-exactly, made, after, both}
+use Rattle.grammar.proofs.SymbolFields.{Signature, Raises, symbol-exactly, raise-exactly}
+use Rattle.grammar.proofs.Growing.{size-positive, tag, behind-tag, tag-before, tag-below, Grows, GrowsAll, Node, grown, grown-all, grown-fields, all-fields, below-tag, free-of-256, pattern-of, rooted-forth, rooted-back, grown-fits, fits-grown}
 
 module _ (arities : List ℕ) (sig : Signature arities) (end : ℕ) (low : end ≤ 4096) where
   pub variable-exactly : (above left : ℕ) → Exactly (a-variable left) (Node arities end 0 above left) below-tag
@@ -382,42 +225,6 @@ module _ (arities : List ℕ) (sig : Signature arities) (end : ℕ) (low : end �
       above
       left
       (omega arith))
-
--- ---- whole terms
-
-abbrev pub pattern-of : Grammar Grown → Grammar Pattern
-pattern-of p = bind p λ g. done (g .term)
-
-rooted-forth : (t : Pattern) → 1 ≤ tag t → Rooted t
-unfolding tag Rooted
-rooted-forth (var x) h = omega arith
-rooted-forth (fun f ts) h = tt
-rooted-forth (pow s e t) h = tt
-
-rooted-back : (t : Pattern) → Rooted t → 1 ≤ tag t
-unfolding tag Rooted
-rooted-back (var x) h = absurd h
-rooted-back (fun f ts) h = omega arith
-rooted-back (pow s e t) h = omega arith
-
-module _ (arities : List ℕ) (end : ℕ) where
-  pub grown-fits : (g : Grown) → Grows arities end 256 256 g → TermFits arities end (g .term)
-  grown-fits g h = record {
-    normal = h .normal;
-    small = (let r = h .room in omega arith);
-    formed = h .formed;
-    ranged = h .ranged;
-  }
-
-  pub fits-grown : (t : Pattern) → length arities < 256 → TermFits arities end t
-      → Grows arities end 256 256 (record { term = t; left = 256 - size t })
-  fits-grown t c h = record {
-    room = (let s = h .small in omega arith);
-    normal = h .normal;
-    free = free-of-256 (length arities) end c t (h .ranged);
-    formed = h .formed;
-    ranged = h .ranged;
-  }
 
 module _ (arities : List ℕ) (sig : Signature arities) where
   pub any-exactly : Exactly (pattern-of (any-term (arity-in arities))) (TermFits arities 4096) term-fields

@@ -5,12 +5,14 @@ pub mod Meaning
 pub mod Push
 pub mod Derive
 pub mod Every
+pub mod Reaching
 pub mod Sound
 pub mod Counters
 pub mod Compute
 pub mod First
 pub mod Formed
 pub mod Worked
+pub mod AllMet
 pub mod Judged
 pub mod Simplify
 pub mod Fills

@@ -1,9 +1,8 @@
 -- Soundness, in every edition: the lines of a checked certificate hold, and the calls of an accepted family never get stuck.
-use Prim.Native.Nat.{ℕ, zero, suc, _+_}
+use Prim.Native.Nat.{ℕ, zero, suc}
 use mathlib.Core.Path.{_≡_, refl, sym, _∙_, ap, ap₂, subst, subst₂}
 use mathlib.Core.List.{List, [], _∷_, _++_, map, append-nil, append-assoc}
 use mathlib.Core.Option.{Option, none, some, Option·map, Option·some-injective, Option·none-ne-some}
-use native.Mathlib.Omega.{arith}
 use lib.ListN.{getElem?}
 use Rattle.patterns.specs.Term.{Term, Plain, fill, Filling, plain, All}
 use Rattle.patterns.proofs.Term.{fill-fill, plain-fill, plain-exps, plain-agree, All-map}
@@ -11,56 +10,11 @@ use Rattle.patterns.proofs.Normal.{plain-norm}
 use Rattle.patterns.specs.Every.{Every}
 use Rattle.patterns.proofs.Every.{listed-map, every-listed}
 use Rattle.patterns.specs.Derive.{Rule, Book, Query, Step, Steps, plain-rule}
-use Rattle.patterns.proofs.Derive.{steps-beside, steps-then, steps-cut}
 use Rattle.patterns.specs.Edition.{Edition, at, reindex, form, Same, meant}
 use Rattle.patterns.specs.Certificate.{Fills, by, Mark, Claim, Use, Stop, fact, call, Kind, unfolds, descends, Line, Closing, Certificate, claim-of}
 use Rattle.patterns.specs.Checks.{Pending, OnMark, SameMark, instance, instance-mark, reindex-mark, Found, Stopped, Stops, Unfold, Descent, Checked, Lines, Closes, Good}
 use Rattle.patterns.specs.Claims.{End, Reaches, Holds, FixedRule, FixedBook, program, Family}
-
--- ---- queries
-
--- what a call that is reached does beside others
-solved : (P : Book (Unit {0})) (t : Plain) → Reaches P t none → (K : Query) → (n : ℕ) × Steps P (suc n) (t ∷ K) K
-unfolding End
-solved P t h K = (h .number, rw (h .end) at (steps-beside P (suc (h .number)) (t ∷ []) (h .query) K (h .steps)))
-
-led : (P : Book (Unit {0})) (t s : Plain) → Reaches P t (some s) → (K : Query)
-    → (n : ℕ) × (R : Query) × Steps P (suc n) (t ∷ K) (s ∷ R)
-unfolding End
-led P t s h K =
-    (h .number, h .end .0 ++ K, rw (h .end .1) at (steps-beside P (suc (h .number)) (t ∷ []) (h .query) K (h .steps)))
-
--- zero or more steps to an end
-record Comes (P : Book (Unit {0})) (Q : Query) (m : Option Plain) : Type 0 where
-  number : ℕ
-  query : Query
-  steps : Steps P number Q query
-  end : End m query
-
-after : {P : Book (Unit {0})} {Q R : Query} {m : Option Plain} (n : ℕ) → Steps P n Q R → Comes P R m → Comes P Q m
-after {P} n s h = record {
-  number = n + h .number;
-  query = h .query;
-  steps = steps-then P n (h .number) _ _ _ s (h .steps);
-  end = h .end;
-}
-
-begins : {P : Book (Unit {0})} {t : Plain} {Q : Query} {m : Option Plain} → Step P (t ∷ []) Q → Comes P Q m → Reaches P t m
-unfolding Steps
-begins {Q} s h = record { number = h .number; query = h .query; steps = (Q, s, h .steps); end = h .end }
-
-comes : {P : Book (Unit {0})} {t : Plain} {m : Option Plain} → Reaches P t m → Comes P (t ∷ []) m
-comes h = record { number = suc (h .number); query = h .query; steps = h .steps; end = h .end }
-
--- a derivation that leads to a call with N steps before it, cut to one step more
-goes-on : (P : Book (Unit {0})) (t s r : Plain) (K : Query) (N : ℕ) → s ≡ r
-    → ((n : ℕ) × (R : Query) × Steps P (suc n) (t ∷ K) (s ∷ R))
-    → ((R : Query) → (Q : Query) × Steps P N (r ∷ R) Q) → (Q : Query) × Steps P (suc N) (t ∷ K) Q
-goes-on P t s r K N e a f =
-    let b = f (a .1) in
-    let q : suc (a .0) + N ≡ suc N + a .0 = omega arith in
-    steps-cut P (suc N) (a .0) (t ∷ K) (b .0)
-    (rw q at (steps-then P (suc (a .0)) N (t ∷ K) (r ∷ a .1) (b .0) (rw e at (a .2)) (b .1)))
+use Rattle.patterns.proofs.Reaching.{solved, led, Comes, after, begins, comes, goes-on}
 
 module _ {E I R S : Type 0} (𝓔 : Edition E I R S) where
   -- ---- meaning

@@ -1,22 +1,16 @@
 -- The cases of the grammar of fillings, as the code meets them.
-use Prim.Native.Nat.{ℕ, zero, suc, _+_, _-_, _<_, _≤_}
+use Prim.Native.Nat.{ℕ, _+_, _<_}
 use mathlib.Core.Path.{_≡_, refl, subst}
 use mathlib.Core.List.{List, [], _∷_}
-use mathlib.Core.Bool.{Bool, true, false, cond}
-use mathlib.Core.Option.{Option, none, some, Option·some-ne-none}
-use mathlib.Core.Logic.{_≢_}
-use native.Mathlib.Omega.{arith}
-use borrow.Author.Tests.{ltb-true}
-use lib.Dec.{ltb}
 use Rattle.fields.specs.declared.Cursor.{Cursor}
 use Rattle.fields.specs.declared.Walk.{Walk}
-use Rattle.fields.specs.declared.Walk.the-variants.{On, No}
+use Rattle.fields.specs.declared.Walk.the-variants.{On}
 use Rattle.fields.specs.Source.{Source}
 use Rattle.fields.specs.Kinds.{from-to}
 use Rattle.fields.specs.Kinds.{Kind as kind}
-use Rattle.fields.specs.Grammar.{done, bind, field}
+use Rattle.fields.specs.Grammar.{field}
 use Rattle.fields.specs.Run.{state, Ran}
-use Rattle.fields.proofs.Rounds.{Rounds}
+use Rattle.fields.proofs.Many.{Rounds}
 use Rattle.fields.proofs.Seqs.{found}
 use Rattle.fields.proofs.Always.{Always, always-bind, always-then, always-run, field-below}
 use Rattle.grammar.specs.Terms.{a-pair, pairs-of, any-term}

@@ -17,7 +17,7 @@ use Rattle.fields.specs.Kinds.{any, node}
 use Rattle.fields.specs.Kinds.{Kind as kind}
 use Rattle.fields.specs.Grammar.{Grammar, bind, field}
 use Rattle.fields.specs.Run.{state, Ran}
-use Rattle.fields.proofs.Rounds.{Rounds}
+use Rattle.fields.proofs.Many.{Rounds}
 use Rattle.fields.proofs.Seqs.{found, ran-spent}
 use Rattle.fields.proofs.Always.{Always, always-bind, always-then, always-run, always-weaken}
 use Rattle.grammar.specs.Terms.{Grown, GrownAll, a-symbol, a-raise, a-variable, an-applied, a-raised, a-node, a-term, args-of}

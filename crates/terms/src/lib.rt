@@ -1,16 +1,17 @@
 // The walk over terms and fillings, packed or listed: it tests each field, and passes it into both outputs.
+mod heads;
+
 use fields::Cursor;
 use fields::Field;
 use fields::Walk;
 ghost use mathlib.Core.Path.{_≡_};
 ghost use Prim.Native.Nat.{ℕ, _≤_};
-ghost use mathlib.Core.Bool.{false, cond};
-ghost use lib.Dec.{eqb};
+ghost use mathlib.Core.Bool.{false};
 ghost use Rattle.fields.specs.Source.{from};
 ghost use Rattle.fields.specs.Run.{Ran};
 ghost use Rattle.terms.specs.Arity.{numberAt, arityAt};
-ghost use Rattle.grammar.specs.Terms.{a-symbol, a-unary, an-exponent, a-raise, a-variable, an-applied, a-raised, a-term, args-of, any-term, root-term, a-pair, pairs-of, a-filling};
-ghost use Rattle.terms.specs.Values.{leftOf, leftOfAll, firstOf, secondOf, nothing};
+ghost use Rattle.grammar.specs.Terms.{an-applied, a-raised, a-term, args-of, any-term, root-term, a-pair, pairs-of, a-filling};
+ghost use Rattle.terms.specs.Values.{leftOf, leftOfAll, firstOf, nothing};
 
 // Where the book's arities stand, in a list or in bytes, and the number that a stays below.
 pub struct Mode {
@@ -49,123 +50,6 @@ pub fn arity(book: &[u8], l: &[u16], listed: bool, f: u16) -> u16
     number(book, l, 4, own, 16)
 }
 
-// A symbol that takes arguments: its arity.
-fn symbol(
-    mode: Mode,
-    book: &[u8],
-    s: &[u8],
-    l: &[u16],
-    words: &mut [u16],
-    bytes: &mut [u8],
-    c: Cursor,
-) -> Walk
-    ensures { λ r. ⌜ Ran (from (now (s .entry)) (now (l .entry))) (a-symbol (arityAt (now (book .entry)) (now (l .entry)) (mode .listed))) c (now (words .entry)) (now (bytes .entry)) (arityAt (now (book .entry)) (now (l .entry)) (mode .listed)) r (now (words .exit)) (now (bytes .exit)) ⌝ }
-{
-    match c.look(8, s, l) {
-        Field::Bad(m) => Walk::No(m, c),
-        Field::Got(f) => {
-            let n = arity(book, l, mode.listed, f);
-            if n == 1 {
-                return Walk::No(4, c);
-            }
-            if n > 8 {
-                return Walk::No(4, c);
-            }
-            let d = c.pass(8, f, words, bytes);
-            Walk::On(n as usize, d)
-        }
-    }
-}
-
-// The symbol of a power, which is not the one directly above.
-fn unary(
-    mode: Mode,
-    book: &[u8],
-    s: &[u8],
-    l: &[u16],
-    words: &mut [u16],
-    bytes: &mut [u8],
-    c: Cursor,
-    above: usize,
-) -> Walk
-    ensures { λ r. ⌜ Ran (from (now (s .entry)) (now (l .entry))) (a-unary (arityAt (now (book .entry)) (now (l .entry)) (mode .listed)) above) c (now (words .entry)) (now (bytes .entry)) (λ v. v) r (now (words .exit)) (now (bytes .exit)) ⌝ }
-{
-    match c.look(8, s, l) {
-        Field::Bad(m) => Walk::No(m, c),
-        Field::Got(f) => {
-            let n = arity(book, l, mode.listed, f);
-            if n != 1 {
-                return Walk::No(4, c);
-            }
-            let k = f as usize;
-            if k == above {
-                return Walk::No(5, c);
-            }
-            let d = c.pass(8, f, words, bytes);
-            Walk::On(k, d)
-        }
-    }
-}
-
-// The least number that b may be beside a.
-fn least_beside(a: usize) -> u16
-    ensures { λ r. ⌜ r ≡ cond (eqb a 0) 1 0 ⌝ }
-{
-    if a == 0 { 1 } else { 0 }
-}
-
-// The numbers a and b of a power, not both 0.
-fn exponent(end: u16, s: &[u8], l: &[u16], words: &mut [u16], bytes: &mut [u8], c: Cursor) -> Walk
-    ensures { λ r. ⌜ Ran (from (now (s .entry)) (now (l .entry))) (an-exponent end) c (now (words .entry)) (now (bytes .entry)) secondOf r (now (words .exit)) (now (bytes .exit)) ⌝ }
-{
-    match c.take(12, 0, end, 4, s, l, words, bytes) {
-        Walk::No(m, d) => Walk::No(m, d),
-        Walk::On(a, d) => {
-            let least = least_beside(a);
-            d.take(12, least, 4096, 5, s, l, words, bytes)
-        }
-    }
-}
-
-// A power's symbol, with its numbers.
-fn raise(
-    mode: Mode,
-    book: &[u8],
-    s: &[u8],
-    l: &[u16],
-    words: &mut [u16],
-    bytes: &mut [u8],
-    c: Cursor,
-    above: usize,
-) -> Walk
-    ensures { λ r. ⌜ Ran (from (now (s .entry)) (now (l .entry))) (a-raise (arityAt (now (book .entry)) (now (l .entry)) (mode .listed)) (mode .end) above) c (now (words .entry)) (now (bytes .entry)) firstOf r (now (words .exit)) (now (bytes .exit)) ⌝ }
-{
-    match unary(mode, book, s, l, words, bytes, c, above) {
-        Walk::No(m, d) => Walk::No(m, d),
-        Walk::On(f, d) => match exponent(mode.end, s, l, words, bytes, d) {
-            Walk::No(m, e) => Walk::No(m, e),
-            Walk::On(_, e) => Walk::On(f, e),
-        },
-    }
-}
-
-// A variable, with the nodes still allowed.
-fn variable(
-    s: &[u8],
-    l: &[u16],
-    words: &mut [u16],
-    bytes: &mut [u8],
-    c: Cursor,
-    left: usize,
-) -> Walk
-    ensures { λ r. ⌜ Ran (from (now (s .entry)) (now (l .entry))) (a-variable left) c (now (words .entry)) (now (bytes .entry)) leftOf r (now (words .exit)) (now (bytes .exit)) ⌝ }
-{
-    match c.take(6, 0, 64, 4, s, l, words, bytes) {
-        Walk::No(m, d) => Walk::No(m, d),
-        Walk::On(_, d) => Walk::On(left, d),
-    }
-}
-
 // The term at a cursor, of at most `left` nodes: the nodes still allowed behind it.
 fn term(
     mode: Mode,
@@ -187,7 +71,7 @@ fn term(
     match c.take(2, least, 3, 4, s, l, words, bytes) {
         Walk::No(m, d) => Walk::No(m, d),
         Walk::On(tag, d) => match tag {
-            0 => variable(s, l, words, bytes, d, left - 1),
+            0 => heads::variable(s, l, words, bytes, d, left - 1),
             1 => applied(mode, book, s, l, words, bytes, d, left - 1),
             _ => raised(mode, book, s, l, words, bytes, d, above, left - 1),
         },
@@ -207,7 +91,7 @@ fn applied(
 ) -> Walk
     ensures { λ r. ⌜ ((deep : ℕ) → left ≤ deep → Ran (from (now (s .entry)) (now (l .entry))) (an-applied (λ f k. a-term deep (arityAt (now (book .entry)) (now (l .entry)) (mode .listed)) (mode .end) 0 f k) (arityAt (now (book .entry)) (now (l .entry)) (mode .listed)) left) c (now (words .entry)) (now (bytes .entry)) leftOf r (now (words .exit)) (now (bytes .exit))) ⌝ }
 {
-    match symbol(mode, book, s, l, words, bytes, c) {
+    match heads::symbol(mode, book, s, l, words, bytes, c) {
         Walk::No(m, d) => Walk::No(m, d),
         Walk::On(n, d) => args(mode, book, s, l, words, bytes, d, n, left),
     }
@@ -227,7 +111,7 @@ fn raised(
 ) -> Walk
     ensures { λ r. ⌜ ((deep : ℕ) → left ≤ deep → Ran (from (now (s .entry)) (now (l .entry))) (a-raised (λ f k. a-term deep (arityAt (now (book .entry)) (now (l .entry)) (mode .listed)) (mode .end) 0 f k) (arityAt (now (book .entry)) (now (l .entry)) (mode .listed)) (mode .end) above left) c (now (words .entry)) (now (bytes .entry)) leftOf r (now (words .exit)) (now (bytes .exit))) ⌝ }
 {
-    match raise(mode, book, s, l, words, bytes, c, above) {
+    match heads::raise(mode, book, s, l, words, bytes, c, above) {
         Walk::No(m, d) => Walk::No(m, d),
         Walk::On(f, d) => term(mode, book, s, l, words, bytes, d, 0, f, left),
     }

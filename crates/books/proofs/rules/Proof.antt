@@ -4,7 +4,7 @@ use mathlib.Core.Path.{_≡_, refl}
 use lib.ListN.{length}
 use Rattle.fields.specs.Source.{from}
 use Rattle.fields.specs.Run.{state}
-use Rattle.fields.proofs.Rounds.{Leads, leads-here, plain-rounds, rounds-end, rounds-no, rounds-on}
+use Rattle.fields.proofs.Rounds.{Leads, leads-here, rounds-end, rounds-no, rounds-on}
 use Rattle.grammar.specs.Books.{rules-of}
 use Rattle.terms.specs.Arity.{arityAt}
 use Rattle.terms.specs.Values.{nothing}
@@ -45,7 +45,7 @@ same-length-3 : tie.Need-same-length-3 Inv-loop μ-loop
 same-length-3 c = search needs
 
 returns : tie.Need-returns Inv-loop μ-loop
-returns c = (rounds-no (plain-rounds (rules-many _)) _ 0 (c .before .before .before .before .before .before .before .before .before .before .before .loop .inv .4) (c .before .before .before .before .before .before .before .before .before .before .loop-test .taken) (c .before .before .before .before .before .before .before .rule .ensures) (c .before .m .given .1), notes-no _ _ _ (c .before .before .before .before .before .before .before .before .before .before .before .loop .inv .5) (c .before .before .before .before .before .before .before .before .before .before .loop-test .taken) (c .before .before .before .before .before .before .before .rule .ensures) (c .before .m .given .1))
+returns c = (rounds-no (rules-many _) _ 0 (c .before .before .before .before .before .before .before .before .before .before .before .loop .inv .4) (c .before .before .before .before .before .before .before .before .before .before .loop-test .taken) (c .before .before .before .before .before .before .before .rule .ensures) (c .before .m .given .1), notes-no _ _ _ (c .before .before .before .before .before .before .before .before .before .before .before .loop .inv .5) (c .before .before .before .before .before .before .before .before .before .before .loop-test .taken) (c .before .before .before .before .before .before .before .rule .ensures) (c .before .m .given .1))
 
 enum-known-m-2 : tie.Need-enum-known-m-2 Inv-loop μ-loop
 enum-known-m-2 c = search needs
@@ -66,7 +66,7 @@ loop-less : tie.Need-loop-less Inv-loop μ-loop
 loop-less c = search needs
 
 loop-again : tie.Need-loop-again Inv-loop μ-loop
-loop-again c = (search needs, search needs, search needs, search needs, rounds-on (plain-rounds (rules-many _)) _ 0 (c .before .before .before .before .before .before .before .before .before .before .before .before .before .before .before .loop .inv .4) (c .before .before .before .before .before .before .before .before .before .before .before .before .before .before .loop-test .taken) (c .before .before .before .before .before .before .before .before .before .before .before .rule .ensures) 0 (c .before .before .before .before .before .m2 .given .1) (λ a e. refl) (λ a b. refl), notes-on _ _ _ (c .before .before .before .before .before .before .before .before .before .before .before .before .before .before .before .loop .inv .5) (c .before .before .before .before .before .before .before .before .before .before .before .before .before .before .loop-test .taken) (c .before .before .before .before .before .before .before .before .before .before .before .rule .ensures) (c .before .before .before .before .before .m2 .given .1) (c .before .before .note .ensures))
+loop-again c = (search needs, search needs, search needs, search needs, rounds-on (rules-many _) _ 0 (c .before .before .before .before .before .before .before .before .before .before .before .before .before .before .before .loop .inv .4) (c .before .before .before .before .before .before .before .before .before .before .before .before .before .before .loop-test .taken) (c .before .before .before .before .before .before .before .before .before .before .before .rule .ensures) 0 (c .before .before .before .before .before .m2 .given .1) (λ a e. refl) (λ a b. refl), notes-on _ _ _ (c .before .before .before .before .before .before .before .before .before .before .before .before .before .before .before .loop .inv .5) (c .before .before .before .before .before .before .before .before .before .before .before .before .before .before .loop-test .taken) (c .before .before .before .before .before .before .before .before .before .before .before .rule .ensures) (c .before .before .before .before .before .m2 .given .1) (c .before .before .note .ensures))
 
 same-length-4 : tie.Need-same-length-4 Inv-loop μ-loop
 same-length-4 c = search needs
@@ -78,7 +78,7 @@ same-length-6 : tie.Need-same-length-6 Inv-loop μ-loop
 same-length-6 c = search needs
 
 returns-2 : tie.Need-returns-2 Inv-loop μ-loop
-returns-2 c = (rounds-end (plain-rounds (rules-many _)) _ 0 (c .before .loop .inv .4) (c .loop-test .left), notes-end _ _ _ (c .before .loop .inv .5) (c .loop-test .left))
+returns-2 c = (rounds-end (rules-many _) _ 0 (c .before .loop .inv .4) (c .loop-test .left), notes-end _ _ _ (c .before .loop .inv .5) (c .loop-test .left))
 
 pub rules-spec : {M : Type 1} → statement M
 rules-spec =

@@ -1,4 +1,4 @@
--- `terms::applied` and `terms::args` and `terms::raised` and `terms::term` meet their contracts.
+-- `terms::term`, `applied`, `raised` and `args`, which call each other, meet their contracts.
 use mathlib.Core.Path.{_≡_, refl}
 use native.Mathlib.Omega.{arith}
 use Rattle.fields.specs.Kinds.{Kind as kind}
@@ -29,12 +29,13 @@ use Rattle.terms.proofs.term.Reads as term
 use Rattle.terms.proofs.term.Kinds as term-kinds
 use Rattle.terms.proofs.+applied+args+raised+term.Lts-term as term-lts
 use Rattle.fields.proofs.Cursor.take.Reads as take-reads
-use Rattle.terms.proofs.raise.Reads as raise-reads
-use Rattle.terms.proofs.symbol.Reads as symbol-reads
-use Rattle.terms.proofs.variable.Reads as variable-reads
+use Rattle.terms.proofs.heads.raise.Reads as raise-reads
+use Rattle.terms.proofs.heads.symbol.Reads as symbol-reads
+use Rattle.terms.proofs.heads.variable.Reads as variable-reads
 use Rattle.terms.proofs.+applied+args+raised+term.{statement}
 use Rattle.terms.proofs.+applied+args+raised+term.Tie.{close}
 
+-- What falls: 16 for each node still allowed, and less than 16 more for the steps of one node.
 abbrev μ-applied : Measures 5 applied-kinds.ps ℕ
 μ-applied κs a = 16 * a .1 .1 .1 .1 .1 .1 .1 .0 + 12
 
@@ -47,112 +48,7 @@ abbrev μ-raised : Measures 5 raised-kinds.ps ℕ
 abbrev μ-term : Measures 5 term-kinds.ps ℕ
 μ-term κs a = 16 * a .1 .1 .1 .1 .1 .1 .1 .1 .1 .0
 
-abbrev applied-at : ℕ → In 5 applied-kinds.ps
-applied-at t = and 5 applied-kinds.ps (is 5 applied-kinds.ps μ-applied t) applied.Pre
-
-abbrev applied-below : ℕ → In 5 applied-kinds.ps
-applied-below t = and 5 applied-kinds.ps (falls 5 applied-kinds.ps _<_ μ-applied t) applied.Pre
-
-abbrev args-at : ℕ → In 5 args-kinds.ps
-args-at t = and 5 args-kinds.ps (is 5 args-kinds.ps μ-args t) args.Pre
-
-abbrev args-below : ℕ → In 5 args-kinds.ps
-args-below t = and 5 args-kinds.ps (falls 5 args-kinds.ps _<_ μ-args t) args.Pre
-
-abbrev raised-at : ℕ → In 5 raised-kinds.ps
-raised-at t = and 5 raised-kinds.ps (is 5 raised-kinds.ps μ-raised t) raised.Pre
-
-abbrev raised-below : ℕ → In 5 raised-kinds.ps
-raised-below t = and 5 raised-kinds.ps (falls 5 raised-kinds.ps _<_ μ-raised t) raised.Pre
-
-abbrev term-at : ℕ → In 5 term-kinds.ps
-term-at t = and 5 term-kinds.ps (is 5 term-kinds.ps μ-term t) term.Pre
-
-abbrev term-below : ℕ → In 5 term-kinds.ps
-term-below t = and 5 term-kinds.ps (falls 5 term-kinds.ps _<_ μ-term t) term.Pre
-
-applied-symbol-requires : (t : ℕ) → applied-lts.Need-symbol-requires (
-  symbol-reads.Asked,
-  symbol-reads.Learnt,
-  args-below t,
-  args.Post,
-) (applied-at t) applied.Post
-applied-symbol-requires t c κs = search needs
-
-applied-enum-known-m : (t : ℕ) → applied-lts.Need-enum-known-m (
-  symbol-reads.Asked,
-  symbol-reads.Learnt,
-  args-below t,
-  args.Post,
-) (applied-at t) applied.Post
-applied-enum-known-m t c = search needs
-
-applied-enum-known-n : (t : ℕ) → applied-lts.Need-enum-known-n (
-  symbol-reads.Asked,
-  symbol-reads.Learnt,
-  args-below t,
-  args.Post,
-) (applied-at t) applied.Post
-applied-enum-known-n t c = search needs
-
-applied-args-requires : (t : ℕ) → applied-lts.Need-args-requires (
-  symbol-reads.Asked,
-  symbol-reads.Learnt,
-  args-below t,
-  args.Post,
-) (applied-at t) applied.Post
-applied-args-requires t c κs = let h = symbol-few _ (c .before .before .before .before .before .before .before .before .before .symbol .ensures) (c .before .before .before .n .given .1) in search needs
-
-applied-same-length : (t : ℕ) → applied-lts.Need-same-length (
-  symbol-reads.Asked,
-  symbol-reads.Learnt,
-  args-below t,
-  args.Post,
-) (applied-at t) applied.Post
-applied-same-length t c = search needs
-
-applied-same-length-2 : (t : ℕ) → applied-lts.Need-same-length-2 (
-  symbol-reads.Asked,
-  symbol-reads.Learnt,
-  args-below t,
-  args.Post,
-) (applied-at t) applied.Post
-applied-same-length-2 t c = search needs
-
-applied-returns : (t : ℕ) → applied-lts.Need-returns (
-  symbol-reads.Asked,
-  symbol-reads.Learnt,
-  args-below t,
-  args.Post,
-) (applied-at t) applied.Post
-unfolding an-applied
-applied-returns t c = λ deep h. seq-no (c .before .before .before .before .before .before .before .symbol .ensures) _ (c .before .m .given .1)
-
-applied-same-length-3 : (t : ℕ) → applied-lts.Need-same-length-3 (
-  symbol-reads.Asked,
-  symbol-reads.Learnt,
-  args-below t,
-  args.Post,
-) (applied-at t) applied.Post
-applied-same-length-3 t c = search needs
-
-applied-same-length-4 : (t : ℕ) → applied-lts.Need-same-length-4 (
-  symbol-reads.Asked,
-  symbol-reads.Learnt,
-  args-below t,
-  args.Post,
-) (applied-at t) applied.Post
-applied-same-length-4 t c = search needs
-
-applied-returns-2 : (t : ℕ) → applied-lts.Need-returns-2 (
-  symbol-reads.Asked,
-  symbol-reads.Learnt,
-  args-below t,
-  args.Post,
-) (applied-at t) applied.Post
-unfolding an-applied
-applied-returns-2 t c = λ deep h. seq-on (c .before .before .before .before .before .before .before .before .before .before .before .before .before .before .symbol .ensures) _ (c .before .before .before .before .before .before .before .before .n .given .1) (λ f q. seq-last _ (λ g. refl) (rw q (c .before .before .before .before .args2 .ensures deep h)))
-
+-- The loop's invariant: the arguments left lead to what all arguments come to.
 abbrev args-Inv-loop : args-lts.InvT-loop
 args-Inv-loop mode book s l words₀ bytes₀ n left at₀ more₀ rest₀ words bytes at more rest =
     (length words ≡ length words₀) × (length bytes ≡ length bytes₀) × (rest ≤ left)
@@ -163,565 +59,155 @@ args-Inv-loop mode book s l words₀ bytes₀ n left at₀ more₀ rest₀ words
 abbrev args-μ-loop : args-lts.MeasureT-loop
 args-μ-loop mode book s l words₀ bytes₀ n left at₀ more₀ rest₀ words bytes at more rest = more
 
-args-loop-holds :
-    (t : ℕ) →
-    args-lts.Need-loop-holds
-    (term-below t, term.Post)
-    (args-at t)
-    args.Post
-    args-Inv-loop
-    args-μ-loop
-args-loop-holds t c = (refl, refl, search needs, λ deep h. leads-here)
+module _ (t : ℕ) where
+  abbrev applied-here : In 5 applied-kinds.ps
+  applied-here = and 5 applied-kinds.ps (is 5 applied-kinds.ps μ-applied t) applied.Pre
 
-args-term-requires :
-    (t : ℕ) →
-    args-lts.Need-term-requires
-    (term-below t, term.Post)
-    (args-at t)
-    args.Post
-    args-Inv-loop
-    args-μ-loop
-args-term-requires t c κs = search needs
+  abbrev applied-below : In 5 applied-kinds.ps
+  applied-below = and 5 applied-kinds.ps (falls 5 applied-kinds.ps _<_ μ-applied t) applied.Pre
 
-args-enum-known-m :
-    (t : ℕ) →
-    args-lts.Need-enum-known-m
-    (term-below t, term.Post)
-    (args-at t)
-    args.Post
-    args-Inv-loop
-    args-μ-loop
-args-enum-known-m t c = search needs
+  abbrev args-here : In 5 args-kinds.ps
+  args-here = and 5 args-kinds.ps (is 5 args-kinds.ps μ-args t) args.Pre
 
-args-same-length :
-    (t : ℕ) →
-    args-lts.Need-same-length
-    (term-below t, term.Post)
-    (args-at t)
-    args.Post
-    args-Inv-loop
-    args-μ-loop
-args-same-length t c = search needs
+  abbrev args-below : In 5 args-kinds.ps
+  args-below = and 5 args-kinds.ps (falls 5 args-kinds.ps _<_ μ-args t) args.Pre
 
-args-same-length-2 :
-    (t : ℕ) →
-    args-lts.Need-same-length-2
-    (term-below t, term.Post)
-    (args-at t)
-    args.Post
-    args-Inv-loop
-    args-μ-loop
-args-same-length-2 t c = search needs
+  abbrev raised-here : In 5 raised-kinds.ps
+  raised-here = and 5 raised-kinds.ps (is 5 raised-kinds.ps μ-raised t) raised.Pre
 
-args-returns :
-    (t : ℕ) →
-    args-lts.Need-returns
-    (term-below t, term.Post)
-    (args-at t)
-    args.Post
-    args-Inv-loop
-    args-μ-loop
-args-returns t c = λ deep h. rounds-no (args-rounds _) _ _ (c .before .before .before .before .before .before .before .before .before .before .before .loop .inv .3 deep h) (c .before .before .before .before .before .before .before .before .before .before .loop-test .taken) (c .before .before .before .before .before .before .before .term .ensures deep (omega arith)) (c .before .m .given .1)
+  abbrev raised-below : In 5 raised-kinds.ps
+  raised-below = and 5 raised-kinds.ps (falls 5 raised-kinds.ps _<_ μ-raised t) raised.Pre
 
-args-enum-known-k :
-    (t : ℕ) →
-    args-lts.Need-enum-known-k
-    (term-below t, term.Post)
-    (args-at t)
-    args.Post
-    args-Inv-loop
-    args-μ-loop
-args-enum-known-k t c = search needs
+  abbrev term-here : In 5 term-kinds.ps
+  term-here = and 5 term-kinds.ps (is 5 term-kinds.ps μ-term t) term.Pre
 
-args-sub-more :
-    (t : ℕ) →
-    args-lts.Need-sub-more
-    (term-below t, term.Post)
-    (args-at t)
-    args.Post
-    args-Inv-loop
-    args-μ-loop
-args-sub-more t c = search needs
+  abbrev term-below : In 5 term-kinds.ps
+  term-below = and 5 term-kinds.ps (falls 5 term-kinds.ps _<_ μ-term t) term.Pre
 
-args-loop-less :
-    (t : ℕ) →
-    args-lts.Need-loop-less
-    (term-below t, term.Post)
-    (args-at t)
-    args.Post
-    args-Inv-loop
-    args-μ-loop
-args-loop-less t c = search needs
+  abbrev applied-claims : applied-lts.Claims
+  applied-claims = (symbol-reads.Asked, symbol-reads.Learnt, args-below, args.Post)
 
-args-loop-again :
-    (t : ℕ) →
-    args-lts.Need-loop-again
-    (term-below t, term.Post)
-    (args-at t)
-    args.Post
-    args-Inv-loop
-    args-μ-loop
-args-loop-again t c = (search needs, search needs, let e = term-left _ _ _ _ _ _ (c .before .before .before .before .before .before .before .term .ensures (c .before .before .before .before .before .before .before .before .before .before .before .loop .rest) (omega arith)) (c .before .k .given .1) in search needs, λ deep h. rounds-on (args-rounds _) _ _ (c .before .before .before .before .before .before .before .before .before .before .before .loop .inv .3 deep h) (c .before .before .before .before .before .before .before .before .before .before .loop-test .taken) (c .before .before .before .before .before .before .before .term .ensures deep (omega arith)) _ (c .before .k .given .1) (λ g e. e) (λ g b. refl))
+  applied-args-requires : applied-lts.Need-args-requires applied-claims applied-here applied.Post
+  applied-args-requires c κs = let h = symbol-few _ (c .before .before .before .before .before .before .before .before .before .symbol .ensures) (c .before .before .before .n .given .1) in search needs
 
-args-same-length-3 :
-    (t : ℕ) →
-    args-lts.Need-same-length-3
-    (term-below t, term.Post)
-    (args-at t)
-    args.Post
-    args-Inv-loop
-    args-μ-loop
-args-same-length-3 t c = search needs
+  applied-returns : applied-lts.Need-returns applied-claims applied-here applied.Post
+  unfolding an-applied
+  applied-returns c = λ deep h. seq-no (c .before .before .before .before .before .before .before .symbol .ensures) _ (c .before .m .given .1)
 
-args-same-length-4 :
-    (t : ℕ) →
-    args-lts.Need-same-length-4
-    (term-below t, term.Post)
-    (args-at t)
-    args.Post
-    args-Inv-loop
-    args-μ-loop
-args-same-length-4 t c = search needs
+  applied-returns-2 : applied-lts.Need-returns-2 applied-claims applied-here applied.Post
+  unfolding an-applied
+  applied-returns-2 c = λ deep h. seq-on (c .before .before .before .before .before .before .before .before .before .before .before .before .before .before .symbol .ensures) _ (c .before .before .before .before .before .before .before .before .n .given .1) (λ f q. seq-last _ (λ g. refl) (rw q (c .before .before .before .before .args2 .ensures deep h)))
 
-args-returns-2 :
-    (t : ℕ) →
-    args-lts.Need-returns-2
-    (term-below t, term.Post)
-    (args-at t)
-    args.Post
-    args-Inv-loop
-    args-μ-loop
-args-returns-2 t c = λ deep h. rounds-end (args-rounds _) _ _ (c .before .loop .inv .3 deep h) (c .loop-test .left)
+  applied-met : {M : Type 1} → applied-lts.Closed applied-claims applied-here applied.Post M
+  applied-met = applied-lts.spec applied-claims applied-here applied.Post
+      (λ c κs. search needs)
+      (λ c. search needs)
+      (λ c. search needs)
+      applied-args-requires
+      (λ c. search needs)
+      (λ c. search needs)
+      applied-returns
+      (λ c. search needs)
+      (λ c. search needs)
+      applied-returns-2
 
-raised-raise-requires : (t : ℕ) → raised-lts.Need-raise-requires (
-  raise-reads.Asked,
-  raise-reads.Learnt,
-  term-below t,
-  term.Post,
-) (raised-at t) raised.Post
-raised-raise-requires t c κs = search needs
+  abbrev args-claims : args-lts.Claims
+  args-claims = (term-below, term.Post)
 
-raised-enum-known-m : (t : ℕ) → raised-lts.Need-enum-known-m (
-  raise-reads.Asked,
-  raise-reads.Learnt,
-  term-below t,
-  term.Post,
-) (raised-at t) raised.Post
-raised-enum-known-m t c = search needs
+  args-loop-holds : args-lts.Need-loop-holds args-claims args-here args.Post args-Inv-loop args-μ-loop
+  args-loop-holds c = (refl, refl, search needs, λ deep h. leads-here)
 
-raised-enum-known-f : (t : ℕ) → raised-lts.Need-enum-known-f (
-  raise-reads.Asked,
-  raise-reads.Learnt,
-  term-below t,
-  term.Post,
-) (raised-at t) raised.Post
-raised-enum-known-f t c = search needs
+  args-returns : args-lts.Need-returns args-claims args-here args.Post args-Inv-loop args-μ-loop
+  args-returns c = λ deep h. rounds-no (args-rounds _) _ _ (c .before .before .before .before .before .before .before .before .before .before .before .loop .inv .3 deep h) (c .before .before .before .before .before .before .before .before .before .before .loop-test .taken) (c .before .before .before .before .before .before .before .term .ensures deep (omega arith)) (c .before .m .given .1)
 
-raised-term-requires : (t : ℕ) → raised-lts.Need-term-requires (
-  raise-reads.Asked,
-  raise-reads.Learnt,
-  term-below t,
-  term.Post,
-) (raised-at t) raised.Post
-raised-term-requires t c κs = search needs
+  args-loop-again : args-lts.Need-loop-again args-claims args-here args.Post args-Inv-loop args-μ-loop
+  args-loop-again c = (search needs, search needs, let e = term-left _ _ _ _ _ _ (c .before .before .before .before .before .before .before .term .ensures (c .before .before .before .before .before .before .before .before .before .before .before .loop .rest) (omega arith)) (c .before .k .given .1) in search needs, λ deep h. rounds-on (args-rounds _) _ _ (c .before .before .before .before .before .before .before .before .before .before .before .loop .inv .3 deep h) (c .before .before .before .before .before .before .before .before .before .before .loop-test .taken) (c .before .before .before .before .before .before .before .term .ensures deep (omega arith)) _ (c .before .k .given .1) (λ g e. e) (λ g b. refl))
 
-raised-same-length : (t : ℕ) → raised-lts.Need-same-length (
-  raise-reads.Asked,
-  raise-reads.Learnt,
-  term-below t,
-  term.Post,
-) (raised-at t) raised.Post
-raised-same-length t c = search needs
+  args-returns-2 : args-lts.Need-returns-2 args-claims args-here args.Post args-Inv-loop args-μ-loop
+  args-returns-2 c = λ deep h. rounds-end (args-rounds _) _ _ (c .before .loop .inv .3 deep h) (c .loop-test .left)
 
-raised-same-length-2 : (t : ℕ) → raised-lts.Need-same-length-2 (
-  raise-reads.Asked,
-  raise-reads.Learnt,
-  term-below t,
-  term.Post,
-) (raised-at t) raised.Post
-raised-same-length-2 t c = search needs
+  args-met : {M : Type 1} → args-lts.Closed args-claims args-here args.Post M
+  args-met = args-lts.spec args-claims args-here args.Post args-Inv-loop args-μ-loop
+      args-loop-holds
+      (λ c κs. search needs)
+      (λ c. search needs)
+      (λ c. search needs)
+      (λ c. search needs)
+      args-returns
+      (λ c. search needs)
+      (λ c. search needs)
+      (λ c. search needs)
+      args-loop-again
+      (λ c. search needs)
+      (λ c. search needs)
+      args-returns-2
 
-raised-returns : (t : ℕ) → raised-lts.Need-returns (
-  raise-reads.Asked,
-  raise-reads.Learnt,
-  term-below t,
-  term.Post,
-) (raised-at t) raised.Post
-unfolding a-raised
-raised-returns t c = λ deep h. seq-no (c .before .before .before .before .before .before .before .raise .ensures) _ (c .before .m .given .1)
+  abbrev raised-claims : raised-lts.Claims
+  raised-claims = (raise-reads.Asked, raise-reads.Learnt, term-below, term.Post)
 
-raised-same-length-3 : (t : ℕ) → raised-lts.Need-same-length-3 (
-  raise-reads.Asked,
-  raise-reads.Learnt,
-  term-below t,
-  term.Post,
-) (raised-at t) raised.Post
-raised-same-length-3 t c = search needs
+  raised-returns : raised-lts.Need-returns raised-claims raised-here raised.Post
+  unfolding a-raised
+  raised-returns c = λ deep h. seq-no (c .before .before .before .before .before .before .before .raise .ensures) _ (c .before .m .given .1)
 
-raised-same-length-4 : (t : ℕ) → raised-lts.Need-same-length-4 (
-  raise-reads.Asked,
-  raise-reads.Learnt,
-  term-below t,
-  term.Post,
-) (raised-at t) raised.Post
-raised-same-length-4 t c = search needs
+  raised-returns-2 : raised-lts.Need-returns-2 raised-claims raised-here raised.Post
+  unfolding a-raised
+  raised-returns-2 c = λ deep h. seq-on (c .before .before .before .before .before .before .before .before .before .before .before .before .before .before .raise .ensures) _ (c .before .before .before .before .before .before .before .before .f .given .1) (λ p q. seq-last _ (λ g. refl) (rw q (c .before .before .before .before .term .ensures deep h)))
 
-raised-returns-2 : (t : ℕ) → raised-lts.Need-returns-2 (
-  raise-reads.Asked,
-  raise-reads.Learnt,
-  term-below t,
-  term.Post,
-) (raised-at t) raised.Post
-unfolding a-raised
-raised-returns-2 t c = λ deep h. seq-on (c .before .before .before .before .before .before .before .before .before .before .before .before .before .before .raise .ensures) _ (c .before .before .before .before .before .before .before .before .f .given .1) (λ p q. seq-last _ (λ g. refl) (rw q (c .before .before .before .before .term .ensures deep h)))
+  raised-met : {M : Type 1} → raised-lts.Closed raised-claims raised-here raised.Post M
+  raised-met = raised-lts.spec raised-claims raised-here raised.Post
+      (λ c κs. search needs)
+      (λ c. search needs)
+      (λ c. search needs)
+      (λ c κs. search needs)
+      (λ c. search needs)
+      (λ c. search needs)
+      raised-returns
+      (λ c. search needs)
+      (λ c. search needs)
+      raised-returns-2
 
-term-returns : (t : ℕ) → term-lts.Need-returns (
-  take-reads.Asked,
-  take-reads.Learnt,
-  variable-reads.Asked,
-  variable-reads.Learnt,
-  applied-below t,
-  applied.Post,
-  raised-below t,
-  raised.Post,
-) (term-at t) term.Post
-term-returns t c = λ deep h. term-none _ _ _ _ _ _ (c .if1 .taken)
+  abbrev term-claims : term-lts.Claims
+  term-claims = (take-reads.Asked, take-reads.Learnt, variable-reads.Asked, variable-reads.Learnt, applied-below, applied.Post, raised-below, raised.Post)
 
-term-take-requires : (t : ℕ) → term-lts.Need-take-requires (
-  take-reads.Asked,
-  take-reads.Learnt,
-  variable-reads.Asked,
-  variable-reads.Learnt,
-  applied-below t,
-  applied.Post,
-  raised-below t,
-  raised.Post,
-) (term-at t) term.Post
-term-take-requires t c κs = search needs
+  term-returns : term-lts.Need-returns term-claims term-here term.Post
+  term-returns c = λ deep h. term-none _ _ _ _ _ _ (c .if1 .taken)
 
-term-enum-known-m : (t : ℕ) → term-lts.Need-enum-known-m (
-  take-reads.Asked,
-  take-reads.Learnt,
-  variable-reads.Asked,
-  variable-reads.Learnt,
-  applied-below t,
-  applied.Post,
-  raised-below t,
-  raised.Post,
-) (term-at t) term.Post
-term-enum-known-m t c = search needs
+  term-returns-2 : term-lts.Need-returns-2 term-claims term-here term.Post
+  term-returns-2 c = λ deep h. term-some _ _ _ _ _ _ (c .before .before .before .before .before .before .before .before .before .before .if1 .left) h (λ d k. seq-no (c .before .before .before .before .before .before .before .take .ensures .ran _ _ (node-bounded kind.tag _ (c .before .before .before .before .before .before .before .before .before .before .if1 .left))) _ (c .before .m .given .1))
 
-term-enum-known-tag : (t : ℕ) → term-lts.Need-enum-known-tag (
-  take-reads.Asked,
-  take-reads.Learnt,
-  variable-reads.Asked,
-  variable-reads.Learnt,
-  applied-below t,
-  applied.Post,
-  raised-below t,
-  raised.Post,
-) (term-at t) term.Post
-term-enum-known-tag t c = search needs
+  term-returns-3 : term-lts.Need-returns-3 term-claims term-here term.Post
+  term-returns-3 c = λ deep h. term-some _ _ _ _ _ _ (c .before .before .before .before .before .before .before .before .before .before .before .before .before .before .before .before .before .before .if1 .left) h (λ d k. seq-at _ (c .before .before .before .before .before .before .before .before .before .before .before .before .before .before .before .take .ensures .ran _ _ (node-bounded kind.tag _ (c .before .before .before .before .before .before .before .before .before .before .before .before .before .before .before .before .before .before .if1 .left))) (c .before .before .before .before .before .before .before .before .before .tag .given .1) (rw (node-variable _ _ _ _ _ _ (c .before .before .before .before .before .before .before .match2 .keys1)) (c .before .before .before .before .variable .ensures)))
 
-term-sub-variable : (t : ℕ) → term-lts.Need-sub-variable (
-  take-reads.Asked,
-  take-reads.Learnt,
-  variable-reads.Asked,
-  variable-reads.Learnt,
-  applied-below t,
-  applied.Post,
-  raised-below t,
-  raised.Post,
-) (term-at t) term.Post
-term-sub-variable t c = search needs
+  term-returns-4 : term-lts.Need-returns-4 term-claims term-here term.Post
+  term-returns-4 c = λ deep h. term-some _ _ _ _ _ _ (c .before .before .before .before .before .before .before .before .before .before .before .before .before .before .before .before .before .before .if1 .left) h (λ d k. seq-at _ (c .before .before .before .before .before .before .before .before .before .before .before .before .before .before .before .take .ensures .ran _ _ (node-bounded kind.tag _ (c .before .before .before .before .before .before .before .before .before .before .before .before .before .before .before .before .before .before .if1 .left))) (c .before .before .before .before .before .before .before .before .before .tag .given .1) (rw (node-applied _ _ _ _ _ _ (c .before .before .before .before .before .before .before .match2 .keys2)) (c .before .before .before .before .applied .ensures d k)))
 
-term-variable-requires : (t : ℕ) → term-lts.Need-variable-requires (
-  take-reads.Asked,
-  take-reads.Learnt,
-  variable-reads.Asked,
-  variable-reads.Learnt,
-  applied-below t,
-  applied.Post,
-  raised-below t,
-  raised.Post,
-) (term-at t) term.Post
-term-variable-requires t c κs = search needs
+  term-returns-5 : term-lts.Need-returns-5 term-claims term-here term.Post
+  term-returns-5 c = λ deep h. term-some _ _ _ _ _ _ (c .before .before .before .before .before .before .before .before .before .before .before .before .before .before .before .before .before .before .if1 .left) h (λ d k. seq-at _ (c .before .before .before .before .before .before .before .before .before .before .before .before .before .before .before .take .ensures .ran _ _ (node-bounded kind.tag _ (c .before .before .before .before .before .before .before .before .before .before .before .before .before .before .before .before .before .before .if1 .left))) (c .before .before .before .before .before .before .before .before .before .tag .given .1) (rw (node-raised _ _ _ _ _ _ (c .before .before .before .before .before .before .before .match2 .rest .0 .1) (c .before .before .before .before .before .before .before .match2 .rest .1)) (c .before .before .before .before .raised .ensures d k)))
 
-term-sub-applied : (t : ℕ) → term-lts.Need-sub-applied (
-  take-reads.Asked,
-  take-reads.Learnt,
-  variable-reads.Asked,
-  variable-reads.Learnt,
-  applied-below t,
-  applied.Post,
-  raised-below t,
-  raised.Post,
-) (term-at t) term.Post
-term-sub-applied t c = search needs
-
-term-applied-requires : (t : ℕ) → term-lts.Need-applied-requires (
-  take-reads.Asked,
-  take-reads.Learnt,
-  variable-reads.Asked,
-  variable-reads.Learnt,
-  applied-below t,
-  applied.Post,
-  raised-below t,
-  raised.Post,
-) (term-at t) term.Post
-term-applied-requires t c κs = search needs
-
-term-sub-raised : (t : ℕ) → term-lts.Need-sub-raised (
-  take-reads.Asked,
-  take-reads.Learnt,
-  variable-reads.Asked,
-  variable-reads.Learnt,
-  applied-below t,
-  applied.Post,
-  raised-below t,
-  raised.Post,
-) (term-at t) term.Post
-term-sub-raised t c = search needs
-
-term-raised-requires : (t : ℕ) → term-lts.Need-raised-requires (
-  take-reads.Asked,
-  take-reads.Learnt,
-  variable-reads.Asked,
-  variable-reads.Learnt,
-  applied-below t,
-  applied.Post,
-  raised-below t,
-  raised.Post,
-) (term-at t) term.Post
-term-raised-requires t c κs = search needs
-
-term-same-length : (t : ℕ) → term-lts.Need-same-length (
-  take-reads.Asked,
-  take-reads.Learnt,
-  variable-reads.Asked,
-  variable-reads.Learnt,
-  applied-below t,
-  applied.Post,
-  raised-below t,
-  raised.Post,
-) (term-at t) term.Post
-term-same-length t c = search needs
-
-term-same-length-2 : (t : ℕ) → term-lts.Need-same-length-2 (
-  take-reads.Asked,
-  take-reads.Learnt,
-  variable-reads.Asked,
-  variable-reads.Learnt,
-  applied-below t,
-  applied.Post,
-  raised-below t,
-  raised.Post,
-) (term-at t) term.Post
-term-same-length-2 t c = search needs
-
-term-returns-2 : (t : ℕ) → term-lts.Need-returns-2 (
-  take-reads.Asked,
-  take-reads.Learnt,
-  variable-reads.Asked,
-  variable-reads.Learnt,
-  applied-below t,
-  applied.Post,
-  raised-below t,
-  raised.Post,
-) (term-at t) term.Post
-term-returns-2 t c = λ deep h. term-some _ _ _ _ _ _ (c .before .before .before .before .before .before .before .before .before .before .if1 .left) h (λ d k. seq-no (c .before .before .before .before .before .before .before .take .ensures .ran _ _ (node-bounded kind.tag _ (c .before .before .before .before .before .before .before .before .before .before .if1 .left))) _ (c .before .m .given .1))
-
-term-same-length-3 : (t : ℕ) → term-lts.Need-same-length-3 (
-  take-reads.Asked,
-  take-reads.Learnt,
-  variable-reads.Asked,
-  variable-reads.Learnt,
-  applied-below t,
-  applied.Post,
-  raised-below t,
-  raised.Post,
-) (term-at t) term.Post
-term-same-length-3 t c = search needs
-
-term-same-length-4 : (t : ℕ) → term-lts.Need-same-length-4 (
-  take-reads.Asked,
-  take-reads.Learnt,
-  variable-reads.Asked,
-  variable-reads.Learnt,
-  applied-below t,
-  applied.Post,
-  raised-below t,
-  raised.Post,
-) (term-at t) term.Post
-term-same-length-4 t c = search needs
-
-term-returns-3 : (t : ℕ) → term-lts.Need-returns-3 (
-  take-reads.Asked,
-  take-reads.Learnt,
-  variable-reads.Asked,
-  variable-reads.Learnt,
-  applied-below t,
-  applied.Post,
-  raised-below t,
-  raised.Post,
-) (term-at t) term.Post
-term-returns-3 t c = λ deep h. term-some _ _ _ _ _ _ (c .before .before .before .before .before .before .before .before .before .before .before .before .before .before .before .before .before .before .if1 .left) h (λ d k. seq-at _ (c .before .before .before .before .before .before .before .before .before .before .before .before .before .before .before .take .ensures .ran _ _ (node-bounded kind.tag _ (c .before .before .before .before .before .before .before .before .before .before .before .before .before .before .before .before .before .before .if1 .left))) (c .before .before .before .before .before .before .before .before .before .tag .given .1) (rw (node-variable _ _ _ _ _ _ (c .before .before .before .before .before .before .before .match2 .keys1)) (c .before .before .before .before .variable .ensures)))
-
-term-same-length-5 : (t : ℕ) → term-lts.Need-same-length-5 (
-  take-reads.Asked,
-  take-reads.Learnt,
-  variable-reads.Asked,
-  variable-reads.Learnt,
-  applied-below t,
-  applied.Post,
-  raised-below t,
-  raised.Post,
-) (term-at t) term.Post
-term-same-length-5 t c = search needs
-
-term-same-length-6 : (t : ℕ) → term-lts.Need-same-length-6 (
-  take-reads.Asked,
-  take-reads.Learnt,
-  variable-reads.Asked,
-  variable-reads.Learnt,
-  applied-below t,
-  applied.Post,
-  raised-below t,
-  raised.Post,
-) (term-at t) term.Post
-term-same-length-6 t c = search needs
-
-term-returns-4 : (t : ℕ) → term-lts.Need-returns-4 (
-  take-reads.Asked,
-  take-reads.Learnt,
-  variable-reads.Asked,
-  variable-reads.Learnt,
-  applied-below t,
-  applied.Post,
-  raised-below t,
-  raised.Post,
-) (term-at t) term.Post
-term-returns-4 t c = λ deep h. term-some _ _ _ _ _ _ (c .before .before .before .before .before .before .before .before .before .before .before .before .before .before .before .before .before .before .if1 .left) h (λ d k. seq-at _ (c .before .before .before .before .before .before .before .before .before .before .before .before .before .before .before .take .ensures .ran _ _ (node-bounded kind.tag _ (c .before .before .before .before .before .before .before .before .before .before .before .before .before .before .before .before .before .before .if1 .left))) (c .before .before .before .before .before .before .before .before .before .tag .given .1) (rw (node-applied _ _ _ _ _ _ (c .before .before .before .before .before .before .before .match2 .keys2)) (c .before .before .before .before .applied .ensures d k)))
-
-term-same-length-7 : (t : ℕ) → term-lts.Need-same-length-7 (
-  take-reads.Asked,
-  take-reads.Learnt,
-  variable-reads.Asked,
-  variable-reads.Learnt,
-  applied-below t,
-  applied.Post,
-  raised-below t,
-  raised.Post,
-) (term-at t) term.Post
-term-same-length-7 t c = search needs
-
-term-same-length-8 : (t : ℕ) → term-lts.Need-same-length-8 (
-  take-reads.Asked,
-  take-reads.Learnt,
-  variable-reads.Asked,
-  variable-reads.Learnt,
-  applied-below t,
-  applied.Post,
-  raised-below t,
-  raised.Post,
-) (term-at t) term.Post
-term-same-length-8 t c = search needs
-
-term-returns-5 : (t : ℕ) → term-lts.Need-returns-5 (
-  take-reads.Asked,
-  take-reads.Learnt,
-  variable-reads.Asked,
-  variable-reads.Learnt,
-  applied-below t,
-  applied.Post,
-  raised-below t,
-  raised.Post,
-) (term-at t) term.Post
-term-returns-5 t c = λ deep h. term-some _ _ _ _ _ _ (c .before .before .before .before .before .before .before .before .before .before .before .before .before .before .before .before .before .before .if1 .left) h (λ d k. seq-at _ (c .before .before .before .before .before .before .before .before .before .before .before .before .before .before .before .take .ensures .ran _ _ (node-bounded kind.tag _ (c .before .before .before .before .before .before .before .before .before .before .before .before .before .before .before .before .before .before .if1 .left))) (c .before .before .before .before .before .before .before .before .before .tag .given .1) (rw (node-raised _ _ _ _ _ _ (c .before .before .before .before .before .before .before .match2 .rest .0 .1) (c .before .before .before .before .before .before .before .match2 .rest .1)) (c .before .before .before .before .raised .ensures d k)))
+  term-met : {M : Type 1} → term-lts.Closed term-claims term-here term.Post M
+  term-met = term-lts.spec term-claims term-here term.Post
+      term-returns
+      (λ c κs. search needs)
+      (λ c. search needs)
+      (λ c. search needs)
+      (λ c. search needs)
+      (λ c κs. search needs)
+      (λ c. search needs)
+      (λ c κs. search needs)
+      (λ c. search needs)
+      (λ c κs. search needs)
+      (λ c. search needs)
+      (λ c. search needs)
+      term-returns-2
+      (λ c. search needs)
+      (λ c. search needs)
+      term-returns-3
+      (λ c. search needs)
+      (λ c. search needs)
+      term-returns-4
+      (λ c. search needs)
+      (λ c. search needs)
+      term-returns-5
 
 pub +applied+args+raised+term-spec : {M : Type 1} → statement M
-+applied+args+raised+term-spec = close μ-applied μ-args μ-raised μ-term (λ t. applied-lts.spec (
-  symbol-reads.Asked,
-  symbol-reads.Learnt,
-  args-below t,
-  args.Post,
-)
-    (applied-at t)
-    applied.Post
-    (applied-symbol-requires t)
-    (applied-enum-known-m t)
-    (applied-enum-known-n t)
-    (applied-args-requires t)
-    (applied-same-length t)
-    (applied-same-length-2 t)
-    (applied-returns t)
-    (applied-same-length-3 t)
-    (applied-same-length-4 t)
-    (applied-returns-2 t))
-    (λ t. args-lts.spec
-    (term-below t, term.Post)
-    (args-at t)
-    args.Post
-    args-Inv-loop
-    args-μ-loop
-    (args-loop-holds t)
-    (args-term-requires t)
-    (args-enum-known-m t)
-    (args-same-length t)
-    (args-same-length-2 t)
-    (args-returns t)
-    (args-enum-known-k t)
-    (args-sub-more t)
-    (args-loop-less t)
-    (args-loop-again t)
-    (args-same-length-3 t)
-    (args-same-length-4 t)
-    (args-returns-2 t))
-    (λ t. raised-lts.spec
-    (raise-reads.Asked, raise-reads.Learnt, term-below t, term.Post)
-    (raised-at t)
-    raised.Post
-    (raised-raise-requires t)
-    (raised-enum-known-m t)
-    (raised-enum-known-f t)
-    (raised-term-requires t)
-    (raised-same-length t)
-    (raised-same-length-2 t)
-    (raised-returns t)
-    (raised-same-length-3 t)
-    (raised-same-length-4 t)
-    (raised-returns-2 t))
-    λ t. term-lts.spec (
-      take-reads.Asked,
-      take-reads.Learnt,
-      variable-reads.Asked,
-      variable-reads.Learnt,
-      applied-below t,
-      applied.Post,
-      raised-below t,
-      raised.Post,
-    )
-    (term-at t)
-    term.Post
-    (term-returns t)
-    (term-take-requires t)
-    (term-enum-known-m t)
-    (term-enum-known-tag t)
-    (term-sub-variable t)
-    (term-variable-requires t)
-    (term-sub-applied t)
-    (term-applied-requires t)
-    (term-sub-raised t)
-    (term-raised-requires t)
-    (term-same-length t)
-    (term-same-length-2 t)
-    (term-returns-2 t)
-    (term-same-length-3 t)
-    (term-same-length-4 t)
-    (term-returns-3 t)
-    (term-same-length-5 t)
-    (term-same-length-6 t)
-    (term-returns-4 t)
-    (term-same-length-7 t)
-    (term-same-length-8 t)
-    (term-returns-5 t)
++applied+args+raised+term-spec = close μ-applied μ-args μ-raised μ-term (λ t. applied-met t) (λ t. args-met t) (λ t. raised-met t) λ t. term-met t

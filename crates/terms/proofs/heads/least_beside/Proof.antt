@@ -1,7 +1,7 @@
--- `terms::least_beside` meets its contract.
+-- `terms::heads::least_beside` meets its contract.
 use borrow.Author.Tests.{eq-eqb, ne-eqb}
-use Rattle.terms.proofs.least_beside.Statement.{statement}
-use Rattle.terms.proofs.least_beside.Tie as tie
+use Rattle.terms.proofs.heads.least_beside.Statement.{statement}
+use Rattle.terms.proofs.heads.least_beside.Tie as tie
 
 returns : tie.Need-returns
 returns c = simp (eq-eqb _ _ (c .if1 .taken))

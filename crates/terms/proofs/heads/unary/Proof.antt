@@ -1,10 +1,10 @@
--- `terms::unary` meets its contract.
+-- `terms::heads::unary` meets its contract.
 use mathlib.Core.Path.{sym, _∙_}
 use Rattle.fields.proofs.Sources.{got-near}
 use Rattle.terms.proofs.Symbols.{unary-bad, unary-not, unary-like, unary-in}
 use borrow.Author.Needs.{needs}
-use Rattle.terms.proofs.unary.Statement.{statement}
-use Rattle.terms.proofs.unary.Tie as tie
+use Rattle.terms.proofs.heads.unary.Statement.{statement}
+use Rattle.terms.proofs.heads.unary.Tie as tie
 
 look-requires : tie.Need-look-requires
 look-requires c κs = search needs

@@ -1,9 +1,9 @@
--- `terms::raise` meets its contract.
+-- `terms::heads::raise` meets its contract.
 use Rattle.fields.proofs.Seqs.{seq-no, seq-on, seq-at, ran-done}
 use Rattle.grammar.specs.Terms.{a-raise}
 use borrow.Author.Needs.{needs}
-use Rattle.terms.proofs.raise.Statement.{statement}
-use Rattle.terms.proofs.raise.Tie as tie
+use Rattle.terms.proofs.heads.raise.Statement.{statement}
+use Rattle.terms.proofs.heads.raise.Tie as tie
 
 unary-requires : tie.Need-unary-requires
 unary-requires c κs = search needs

@@ -1,10 +1,10 @@
--- `terms::symbol` meets its contract.
+-- `terms::heads::symbol` meets its contract.
 use mathlib.Core.Path.{sym, _∙_}
 use Rattle.fields.proofs.Sources.{got-near}
 use Rattle.terms.proofs.Symbols.{symbol-bad, symbol-unary, symbol-missing, symbol-in}
 use borrow.Author.Needs.{needs}
-use Rattle.terms.proofs.symbol.Statement.{statement}
-use Rattle.terms.proofs.symbol.Tie as tie
+use Rattle.terms.proofs.heads.symbol.Statement.{statement}
+use Rattle.terms.proofs.heads.symbol.Tie as tie
 
 look-requires : tie.Need-look-requires
 look-requires c κs = search needs

@@ -1,4 +1,4 @@
--- `terms::exponent` meets its contract.
+-- `terms::heads::exponent` meets its contract.
 use mathlib.Core.Path.{refl}
 use Rattle.fields.proofs.Seqs.{seq-no, seq-at, seq-last}
 use Rattle.grammar.specs.Terms.{an-exponent}
@@ -6,8 +6,8 @@ use native.Mathlib.Omega.{arith}
 use Rattle.fields.specs.Kinds.{Kind as kind}
 use Rattle.fields.proofs.Ranges.{from-to-bounded, beside-bounded}
 use borrow.Author.Needs.{needs}
-use Rattle.terms.proofs.exponent.Statement.{statement}
-use Rattle.terms.proofs.exponent.Tie as tie
+use Rattle.terms.proofs.heads.exponent.Statement.{statement}
+use Rattle.terms.proofs.heads.exponent.Tie as tie
 
 take-requires : tie.Need-take-requires
 take-requires c κs = search needs

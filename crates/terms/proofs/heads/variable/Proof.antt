@@ -1,12 +1,12 @@
--- `terms::variable` meets its contract.
+-- `terms::heads::variable` meets its contract.
 use Rattle.fields.proofs.Seqs.{seq-no, seq-on, ran-done}
 use Rattle.grammar.specs.Terms.{a-variable}
 use native.Mathlib.Omega.{arith}
 use Rattle.fields.specs.Kinds.{Kind as kind}
 use Rattle.fields.proofs.Ranges.{any-bounded}
 use borrow.Author.Needs.{needs}
-use Rattle.terms.proofs.variable.Statement.{statement}
-use Rattle.terms.proofs.variable.Tie as tie
+use Rattle.terms.proofs.heads.variable.Statement.{statement}
+use Rattle.terms.proofs.heads.variable.Tie as tie
 
 take-requires : tie.Need-take-requires
 take-requires c κs = search needs

@@ -1,0 +1,217 @@
+"""What the tools share: the project's files, their `use` lines, and what the antt files declare.
+
+No tool of its own. Everything here reads text as text; nothing asks the checker."""
+import os
+import re
+import sys
+
+WORD = r"[^\s(){}\[\];,.⌜⌝\"@λ]"
+USE = re.compile(r"^(?:ghost |unfoldable |pub )*use\s+([^\s{};]+?)(?:\.\{([^}]*)\}| as (\S+?))?;?$", re.M)
+MARKS = r"(?:(?:abbrev|unfoldable|pub)\s+)*"
+SIGNATURE = re.compile(rf"^({MARKS})({WORD}+)\s*:(?:\s|$)")
+TYPE = re.compile(rf"^({MARKS})(data|record)\s+({WORD}+)")
+MEMBER = re.compile(rf"^(?:pub )?({WORD}+) :")
+
+
+def stop(message):
+    """Ends the tool with a message and status 2: it was called wrongly, or something is not there."""
+    print(f"{os.path.basename(sys.argv[0])}: {message}", file=sys.stderr)
+    sys.exit(2)
+
+
+def usage(text, most=None, least=0):
+    """Prints the help where it is asked for, or where the arguments are too few or too many; and goes on only in the root."""
+    given = sys.argv[1:]
+    if {"-h", "--help"} & set(given):
+        print(text)
+        sys.exit(0)
+    if len(given) < least or (most is not None and len(given) > most):
+        print(text, file=sys.stderr)
+        sys.exit(2)
+    at_root()
+
+
+def at_root():
+    """Goes on only in the repository's root."""
+    if not os.path.isfile("crates.txt") or not os.path.isdir("crates"):
+        stop("run it in the repository's root: crates.txt and crates/ are not here")
+
+
+def crates():
+    """The crates that crates.txt names."""
+    rows = (row.split("#")[0] for row in read("crates.txt").split("\n"))
+    return [row.split(":")[0].strip() for row in rows if ":" in row]
+
+
+def known_crate(name):
+    if name not in crates():
+        stop(f"crates.txt has no crate {name}")
+    return name
+
+
+def read(path):
+    try:
+        with open(path, encoding="utf-8") as file:
+            return file.read()
+    except OSError as error:
+        stop(f"{path}: {error.strerror}")
+
+
+def sources(folder="crates", endings=(".antt", ".rt")):
+    """Every file of code below a folder, in order."""
+    if not os.path.isdir(folder):
+        stop(f"no folder {folder}")
+    for base, folders, files in sorted(os.walk(folder)):
+        folders[:] = sorted(f for f in folders if f != "target")
+        yield from (os.path.join(base, f) for f in sorted(files) if f.endswith(endings))
+
+
+def bare(text):
+    """The text without its comments."""
+    return re.sub(r"(?m)(?:^|(?<=\s))(--|//)[^\n]*", "", text)
+
+
+def words(text):
+    return re.findall(rf"{WORD}+", text)
+
+
+def uses(text):
+    """(module, name there, name here) for each name that a `use` line brings; a whole module has no name there."""
+    for line in USE.finditer(text):
+        module, names, alias = line.groups()
+        if names is None:
+            yield module, None, alias or re.split(r"\.|::", module)[-1]
+            continue
+        for item in filter(None, (n.strip() for n in names.split(","))):
+            there, _, here = item.partition(" as ")
+            yield module, there.strip(), (here or there).strip()
+
+
+def without_uses(text):
+    return USE.sub("", text)
+
+
+class Declaration:
+    """A declaration of an antt file: its name, its lines, and the telescopes of the modules around it."""
+
+    def __init__(self, file, name, marks, kind, around):
+        self.file, self.name, self.kind, self.around = file, name, kind, around
+        self.public = "pub" in marks
+        self.lines, self.head, self.members = [], [], []
+
+    def add(self, line, level):
+        text = line[level:]
+        if not self.lines:
+            self.open = True
+        elif self.open and (text.startswith("unfolding ") or self.clause(text)):
+            self.open = False
+        self.lines.append(line)
+        if self.open:
+            self.head.append(line)
+        member = MEMBER.match(line[level + 2:]) if self.kind and line.startswith(" " * (level + 2)) else None
+        if member and len(self.lines) > 1:
+            self.members.append(member.group(1))
+
+    def clause(self, text):
+        return not text.startswith(" ") and words(text)[:1] == [self.name]
+
+    def text(self):
+        return bare("\n".join(self.around + self.lines))
+
+    def statement(self):
+        """What it says, without how it is shown: for a type all of it."""
+        return self.text() if self.kind else bare("\n".join(self.around + self.head))
+
+
+def declarations(path):
+    """The declarations of an antt file, those in `module _` blocks with the others."""
+    levels, telescopes, found, current, heading = [0], [[]], [], None, None
+    for line in read(path).split("\n"):
+        if not line.strip():
+            continue
+        indent = len(line) - len(line.lstrip())
+        if heading is not None and indent > levels[-1]:
+            heading.append(line)
+            if line.rstrip().endswith("where"):
+                levels, telescopes, heading = levels + [levels[-1] + 2], telescopes + [heading], None
+            continue
+        while indent < levels[-1]:
+            levels, telescopes, current = levels[:-1], telescopes[:-1], None
+        level, text = levels[-1], line.strip()
+        if indent > level:
+            if current is not None:
+                current.add(line, level)
+            continue
+        if text.startswith("--") or re.match(r"(pub |unfoldable )*(use|mod) |infix", text):
+            continue
+        if re.match(r"(unfoldable |abbrev )?mutual$", text):
+            levels, telescopes, current = levels + [level + 2], telescopes + [[]], None
+            continue
+        if text.startswith("module _"):
+            heading, current = [line], None
+            if text.endswith("where"):
+                levels, telescopes, heading = levels + [level + 2], telescopes + [heading], None
+            continue
+        kind, signature = TYPE.match(text), SIGNATURE.match(text)
+        if kind or signature:
+            marks, name = (kind.group(1), kind.group(3)) if kind else signature.groups()
+            around = [row for rows in telescopes for row in rows]
+            current = Declaration(path, name, marks, kind and kind.group(2), around)
+            found.append(current)
+        elif not (current and current.clause(text)):
+            named = [d for d in found if d.clause(text)]
+            current = named[-1] if named else current
+        if current is not None:
+            current.add(line, level)
+    return found
+
+
+def file_of(module):
+    """The file that a module's path names, or None: those of the kit and those that the checker makes have none."""
+    parts = module.split(".")
+    crate = re.match(r"Rattle·([a-z0-9_]+)(?:·(?:specs|proofs))?$", parts[0])
+    if not crate or len(parts) < 3 or parts[1] not in ("specs", "proofs"):
+        return None
+    path = f"crates/{crate.group(1)}/{'/'.join(parts[1:])}.antt"
+    return path if os.path.isfile(path) else None
+
+
+class Tree:
+    """All antt files of the project, and which declaration a word in one of them names."""
+
+    def __init__(self):
+        self.files = {path: declarations(path) for path in sources("crates", (".antt",))}
+        self.own = {path: self.names(found) for path, found in self.files.items()}
+        self.brought = {path: list(uses(read(path))) for path in self.files}
+
+    @staticmethod
+    def names(found):
+        table = {}
+        for declaration in found:
+            for name in [declaration.name] + (declaration.members if declaration.kind == "data" else []):
+                table.setdefault(name, declaration)
+        return table
+
+    def scope(self, path, brought=None):
+        """name -> declaration, for what a file declares and what its `use` lines bring of the project."""
+        table = {}
+        for module, there, here in self.brought[path] if brought is None else brought:
+            if there is not None and "." in there:
+                module, there = f"{module}.{there.rpartition('.')[0]}", there.rpartition(".")[2]
+            file = file_of(module)
+            if file is None and there is not None:
+                # constructors: `use ..Kinds.Kind.{..}`
+                file = file_of(module.rpartition(".")[0])
+            if file and there is not None and there in self.own[file]:
+                table[here] = self.own[file][there]
+        table.update(self.own.get(path, {}))
+        return table
+
+    def cites(self, text, scope):
+        """The declarations that a text names, in the order in which it names them."""
+        found = []
+        for word in words(text):
+            for name in {word, word.strip("_")} | {f"_{word}_"}:
+                if name in scope and scope[name] not in found:
+                    found.append(scope[name])
+        return found
