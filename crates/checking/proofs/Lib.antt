@@ -1,5 +1,4 @@
 -- The laws behind the contracts of this crate.
-pub mod Taking
 pub mod Passing
 pub mod Noting
 pub mod Frames

@@ -18,16 +18,17 @@ use Rattle.grammar.specs.Listing.{if-any, term-fields}
 use Rattle.table.specs.Answer.{Says}
 use Rattle.table.proofs.Comparing.{says-true, says-false}
 use Rattle.instances.specs.Instances.{Levels}
-use Rattle.checking.specs.declared.Read.{Read}
+use Rattle.instances.specs.declared.Read.{Read}
 use Rattle.checking.specs.declared.Found.{Found}
 use Rattle.checking.specs.declared.Found.the-variants.{Fault, Good}
 use Rattle.checking.specs.declared.Behind.{Behind}
 use Rattle.checking.specs.declared.Behind.the-variants.{Judged, Pending, Nothing}
-use Rattle.checking.specs.Placed.{Takes, Known-arities, RightAt}
+use Rattle.checking.specs.Placed.{RightAt}
+use Rattle.instances.specs.Lying.{Known-arities}
+use Rattle.instances.specs.Taking.{Takes}
 use Rattle.checking.specs.Found.{Finds}
 use Rattle.checking.specs.Rights.{EmptyRight, lead, Looks, LooksLevel}
-use Rattle.checking.proofs.Passing.{term-at}
-use Rattle.checking.proofs.Using.{rest-at}
+use Rattle.instances.proofs.Taking.{term-at, rest-at}
 use Rattle.checking.proofs.Finding.{fault-none, finds-met, finds-unmet, finds-none}
 
 -- ---- the empty mark

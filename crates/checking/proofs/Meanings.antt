@@ -14,17 +14,18 @@ use Rattle.patterns.specs.Checks.{OnMark, instance, instance-mark, reindex-mark
 use Rattle.patterns.proofs.Term.{fill-var}
 use Rattle.grammar.specs.Listing.{if-any, term-fields}
 use Rattle.grammar.specs.Limits.{RootFits}
-use Rattle.checking.specs.declared.Read.{Read}
+use Rattle.instances.specs.declared.Read.{Read}
 use Rattle.checking.specs.declared.Instance.{Instance}
 use Rattle.checking.specs.declared.Subject.the-variants.{Empty, Call, Plain, Used}
 use Rattle.instances.specs.Lying.{Lies, behind}
 use Rattle.instances.specs.Fillings.{Fills as Tells}
-use Rattle.checking.specs.Placed.{Takes, RightAt, LeftAt}
+use Rattle.checking.specs.Placed.{RightAt, LeftAt}
+use Rattle.instances.specs.Taking.{Takes}
 use Rattle.checking.specs.Known.{Known, Scene, Uses}
 use Rattle.checking.specs.Subjects.{Means, PlainRight, UsedRight}
 use Rattle.instances.proofs.Lying.{lies-rest}
 use Rattle.instances.proofs.Terms.{as-it-is}
-use Rattle.checking.proofs.Passing.{term-at}
+use Rattle.instances.proofs.Taking.{term-at}
 use Rattle.checking.proofs.Frames.{bare-tells}
 
 module _ {book cert w ars : List ℕ} {B : Book Exp} {es : List (Claim Exp)} where

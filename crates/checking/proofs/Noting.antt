@@ -17,9 +17,10 @@ use Rattle.grammar.specs.Limits.{RuleFits}
 use Rattle.table.specs.Sides.{Kept}
 use Rattle.table.proofs.Sides.{kept-wider}
 use Rattle.table.proofs.Writes.{kept-self, kept-then}
-use Rattle.checking.specs.declared.Read.{Read}
-use Rattle.instances.specs.Lying.{Lies}
-use Rattle.checking.specs.Placed.{Takes, Known-arities, RuleAt, PassesRule, Notes, Indexes}
+use Rattle.instances.specs.declared.Read.{Read}
+use Rattle.instances.specs.Lying.{Lies, Known-arities}
+use Rattle.checking.specs.Placed.{RuleAt, PassesRule, Notes, Indexes}
+use Rattle.instances.specs.Taking.{Takes}
 use Rattle.instances.proofs.Lying.{lies-rest, lies-front, lies-back}
 
 pub notes-none : (book : List ℕ) (at k n : ℕ) (w : List ℕ) → n ≡ 0 → Notes book at k n w w

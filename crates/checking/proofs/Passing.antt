@@ -9,22 +9,18 @@ use lib.ListN.{length}
 use Rattle.bits.specs.Packed.{width}
 use Rattle.bits.proofs.Groups.{width-append}
 use Rattle.patterns.specs.First.{Exp, Pattern}
-use Rattle.patterns.specs.Formed.{Formed}
 use Rattle.patterns.specs.Every.{Every}
 use Rattle.patterns.specs.Certificate.{Mark}
 use Rattle.patterns.specs.Checks.{OnMark}
 use Rattle.grammar.specs.Listing.{if-any, term-fields, rule-fields}
-use Rattle.grammar.specs.Limits.{TermFits, RootFits}
-use Rattle.checking.specs.declared.Read.{Read}
-use Rattle.instances.specs.Lying.{Lies, TermAt}
+use Rattle.grammar.specs.Limits.{RootFits}
+use Rattle.instances.specs.declared.Read.{Read}
+use Rattle.instances.specs.Lying.{Lies, Known-arities}
 use Rattle.instances.specs.Instances.{Skips}
-use Rattle.checking.specs.Placed.{Takes, Known-arities, Passes, PassesRule, RightAt, PassesRight}
+use Rattle.checking.specs.Placed.{Passes, PassesRule, RightAt, PassesRight}
+use Rattle.instances.specs.Taking.{Takes}
+use Rattle.instances.proofs.Taking.{term-at}
 use Rattle.instances.proofs.Lying.{lies-rest, lies-front, lies-back}
-
--- a term within the limits keeps to the arities that the book's bytes tell
-pub term-at : {book s ars : List ℕ} {at bound : ℕ} {t : Pattern} → Known-arities book ars → TermFits ars bound t
-    → Lies s at (term-fields t) → TermAt book s at t
-term-at {t = t} k f l = record { lies = l; small = f .small; formed = subst (λ ar. Formed ar t) (sym k) (f .formed) }
 
 pub passes-none : (book s : List ℕ) (at n : ℕ) → n ≡ 0 → Passes book s at n at
 unfolding flatMap width

@@ -1,24 +1,20 @@
 -- A use that was read is the one that lies there.
 use Prim.Native.Nat.{ℕ, _+_}
 use mathlib.Core.Path.{_≡_, sym, subst, ap, _∙_}
-use mathlib.Core.List.{List, _∷_}
+use mathlib.Core.List.{List}
 use native.Mathlib.Omega.{arith}
 use lib.ListN.{getD}
 use Rattle.bits.specs.Packed.{width}
 use Rattle.patterns.specs.First.{Exp, Pair}
 use Rattle.patterns.specs.Certificate.{Claim, Use}
 use Rattle.grammar.specs.Listing.{use-fields}
-use Rattle.checking.specs.declared.Read.{Read}
-use Rattle.instances.specs.Lying.{Lies}
-use Rattle.fillings.specs.Listings.{Lists}
-use Rattle.checking.specs.Placed.{Takes, ClaimAt}
+use Rattle.instances.specs.declared.Read.{Read}
+use Rattle.instances.specs.Listings.{Lists}
+use Rattle.checking.specs.Placed.{ClaimAt}
+use Rattle.instances.specs.Taking.{Takes}
 use Rattle.checking.specs.Known.{ReadsUse}
-use Rattle.instances.proofs.Lying.{lies-rest}
+use Rattle.instances.proofs.Taking.{rest-at}
 use Rattle.checking.proofs.Frames.{kept-below}
-
--- the rest of some fields, from where the first was taken
-pub rest-at : {s : List ℕ} {w at v : ℕ} {fs : List (ℕ × ℕ)} {c : Read} → Takes s w at c → Lies s at ((w, v) ∷ fs) → Lies s (c .at) fs
-rest-at {s} {w} {at} {v} {fs} t l = subst (λ k. Lies s k fs) (sym (t .told v fs l .1)) (lies-rest s at w v fs l)
 
 module _ {book cert : List ℕ} {at end : ℕ} {w after : List ℕ} {l i j : Read} {left right : ℕ} where
   pub reads-use : Takes cert 8 at l → Takes cert 12 (l .at) i → Takes cert 12 (i .at) j → left ≡ getD w (256 + l .value) 0

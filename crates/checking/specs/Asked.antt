@@ -14,7 +14,8 @@ use Rattle.checking.specs.declared.Behind.{Behind}
 use Rattle.checking.specs.declared.Asked.{Asked}
 use Rattle.checking.specs.declared.Asked.the-variants.{Same, Led, Level, Present}
 use Rattle.checking.specs.declared.Subject.{Subject}
-use Rattle.checking.specs.Placed.{Known-arities, RightAt}
+use Rattle.checking.specs.Placed.{RightAt}
+use Rattle.instances.specs.Lying.{Known-arities}
 use Rattle.checking.specs.Known.{Below}
 use Rattle.checking.specs.Subjects.{Means}
 use Rattle.checking.specs.Found.{Finds}

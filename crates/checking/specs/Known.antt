@@ -13,9 +13,9 @@ use Rattle.bits.specs.Packed.{width}
 use Rattle.grammar.specs.Listing.{use-fields}
 use Rattle.grammar.specs.Limits.{UseFits}
 use Rattle.checking.specs.declared.Instance.{Instance}
-use Rattle.instances.specs.Lying.{Lies}
+use Rattle.instances.specs.Lying.{Lies, Known-arities}
 use Rattle.instances.specs.Fillings.{entry, Fills as Tells}
-use Rattle.checking.specs.Placed.{Known-arities, RuleAt, ClaimAt}
+use Rattle.checking.specs.Placed.{RuleAt, ClaimAt}
 
 -- no word below n has changed
 pub record Below (n : ℕ) (w after : List ℕ) : Type 0 where

@@ -1,7 +1,7 @@
--- Fields taken from a file, and rules and claims that lie there.
-use Prim.Native.Nat.{ℕ, _+_, _^_, _<_}
+-- Rules and claims that lie in a file.
+use Prim.Native.Nat.{ℕ, _+_}
 use mathlib.Core.Path.{_≡_}
-use mathlib.Core.List.{List, _∷_, flatMap}
+use mathlib.Core.List.{List, flatMap}
 use mathlib.Core.Option.{some}
 use lib.ListN.{length, getD, getElem?}
 use Rattle.bits.specs.Packed.{width}
@@ -10,21 +10,11 @@ use Rattle.patterns.specs.Every.{Every}
 use Rattle.patterns.specs.Derive.{Rule, Book}
 use Rattle.patterns.specs.Certificate.{Mark, Claim}
 use Rattle.patterns.specs.Checks.{OnMark}
-use Rattle.grammar.specs.Books.{RuleBook, arity-in}
-use Rattle.grammar.specs.Listing.{Fields, if-any, term-fields, rule-fields, book-fields}
+use Rattle.grammar.specs.Books.{RuleBook}
+use Rattle.grammar.specs.Listing.{if-any, term-fields, rule-fields, book-fields}
 use Rattle.grammar.specs.Limits.{TermFits, RootFits, RuleFits, BookFits}
 use Rattle.table.specs.Sides.{Kept}
-use Rattle.checking.specs.declared.Read.{Read}
-use Rattle.instances.specs.Lying.{Lies, arities}
-
--- the field of w bits at a bit, and the bit behind it
-pub record Takes (s : List ℕ) (w at : ℕ) (r : Read) : Type 0 where
-  pub told : (v : ℕ) (fs : Fields) → Lies s at ((w, v) ∷ fs) → (r .value ≡ v) × (r .at ≡ at + w)
-  pub small : r .value < 2 ^ w
-
--- the arities of a book that was read are those that its bytes tell
-abbrev pub Known-arities : List ℕ → List ℕ → Type 0
-Known-arities book ars = arities book ≡ arity-in ars
+use Rattle.instances.specs.Lying.{Lies, Known-arities}
 
 -- the answer is where the n terms at a bit end
 pub record Passes (book s : List ℕ) (at n r : ℕ) : Type 0 where

@@ -12,7 +12,8 @@ use Rattle.table.specs.Answer.{Says}
 use Rattle.checking.specs.declared.Found.{Found}
 use Rattle.checking.specs.declared.Behind.{Behind}
 use Rattle.checking.specs.declared.Behind.the-variants.{Judged, Pending, Nothing}
-use Rattle.checking.specs.Placed.{Known-arities, RightAt}
+use Rattle.checking.specs.Placed.{RightAt}
+use Rattle.instances.specs.Lying.{Known-arities}
 use Rattle.checking.specs.Found.{Finds}
 
 -- the answer is whether the right at a bit is the empty mark

@@ -2,21 +2,14 @@
 mod rights;
 mod sides;
 
-use bits::Cursor;
-use bits::Field;
+use instances::field;
 ghost use mathlib.Core.Path.{_≡_};
 ghost use Prim.Native.Nat.{_+_, _≤_, _<_};
 ghost use lib.ListN.{length, getD};
-ghost use Rattle.checking.specs.Placed.{Takes, Passes, PassesRule, PassesRight, Notes, Indexes};
+ghost use Rattle.checking.specs.Placed.{Passes, PassesRule, PassesRight, Notes, Indexes};
 ghost use Rattle.checking.specs.Known.{ReadsUse};
 ghost use Rattle.checking.specs.Subjects.{PlainRight, UsedRight};
 ghost use Rattle.checking.specs.Asked.{LedEquals, asked-at, Checks};
-
-// A field, and the bit behind it.
-pub struct Read {
-    pub value: u16,
-    pub at: usize,
-}
 
 // A use that was read: where both sides of its claim lie, its index pair, and the bit behind it.
 pub struct Instance {
@@ -70,18 +63,6 @@ pub enum Asked {
     Led(u16, u16),
     Level(u16),
     Present(u16),
-}
-
-// The field of w bits at a bit.
-pub fn field(s: &[u8], w: usize, at: usize) -> Read
-    requires { ⌜ w ≤ 16 ⌝ }
-    ensures { λ r. ⌜ Takes (now (s .entry)) w at r ⌝ }
-{
-    let c = Cursor { at };
-    match c.take(w, s) {
-        Field::Past => Read { value: 0, at: 0 },
-        Field::Got(v, d) => Read { value: v, at: d.at },
-    }
 }
 
 // Where the n terms at a bit end.
@@ -184,7 +165,7 @@ pub fn read_use(book: &[u8], certificate: &[u8], w: &mut [u64], at: usize) -> In
     let j = field(certificate, 12, i.at);
     let left = noted(w, 256 + k);
     let right = noted(w, 512 + k);
-    let end = fillings::list_filling(book, certificate, w, 896, j.at);
+    let end = instances::fillings::list_filling(book, certificate, w, 896, j.at);
     Instance {
         left,
         right,

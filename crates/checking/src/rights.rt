@@ -1,7 +1,7 @@
 // What is asked of a right: that it is the empty mark, that it is not, that it is the same at every index.
 use crate::Behind;
 use crate::Found;
-use crate::field;
+use instances::field;
 ghost use Rattle.checking.specs.Rights.{EmptyRight, Looks, LooksLevel};
 
 // Whether the right at a bit is the empty mark.

@@ -18,7 +18,7 @@ use Rattle.patterns.specs.Demand.{level}
 use Rattle.patterns.specs.Judge.{check, compare, sole, line-checks}
 use Rattle.grammar.specs.Listing.{term-fields, use-fields, kind-fields, filling-fields}
 use Rattle.grammar.specs.Limits.{RootFits, KindFits}
-use Rattle.checking.specs.declared.Read.{Read}
+use Rattle.instances.specs.declared.Read.{Read}
 use Rattle.checking.specs.declared.Found.{Found}
 use Rattle.checking.specs.declared.Found.the-variants.{Fault, Good}
 use Rattle.checking.specs.declared.Kind.the-variants.{Descent}
@@ -26,16 +26,17 @@ use Rattle.checking.specs.declared.Instance.{Instance}
 use Rattle.checking.specs.declared.Subject.{Subject}
 use Rattle.checking.specs.declared.Subject.the-variants.{Empty, Call, Plain, Used}
 use Rattle.checking.specs.declared.Behind.the-variants.{Nothing}
-use Rattle.instances.specs.Lying.{Lies, behind}
-use Rattle.fillings.specs.Listings.{Lists}
-use Rattle.checking.specs.Placed.{Takes, Known-arities, RightAt, RuleAt}
+use Rattle.instances.specs.Lying.{Lies, behind, Known-arities}
+use Rattle.instances.specs.Listings.{Lists}
+use Rattle.checking.specs.Placed.{RightAt, RuleAt}
+use Rattle.instances.specs.Taking.{Takes}
 use Rattle.checking.specs.Known.{Below, Uses, ReadsUse}
 use Rattle.checking.specs.Subjects.{Means, PlainRight, UsedRight}
 use Rattle.checking.specs.Found.{Finds}
 use Rattle.checking.specs.Asked.{asked-at, checks-of, end-of, Checks}
 use Rattle.descents.specs.Descents.{Descending, base-checks, DescentBase, HeadAt, DescentHead, DescentCall, LevelRight, DescentBy, DescentOn, DescentAt}
 use Rattle.instances.proofs.Lying.{lies-front, lies-back}
-use Rattle.checking.proofs.Using.{rest-at}
+use Rattle.instances.proofs.Taking.{rest-at}
 use Rattle.checking.proofs.Frames.{below-then, below-less, kept-below, known-below, scene-below, uses-below, tells-above}
 use Rattle.checking.proofs.Meanings.{call-means, left-means, left-itself, used-means}
 use Rattle.checking.proofs.Finding.{finds-fault, finds-last, finds-stop, finds-then, finds-ending}

@@ -17,8 +17,8 @@ use Rattle.grammar.specs.Listing.{term-fields, kind-fields, filling-fields}
 use Rattle.grammar.specs.Limits.{RootFits, FillsFit, KindFits, call-counts}
 use Rattle.checking.specs.declared.Found.{Found}
 use Rattle.checking.specs.declared.Instance.{Instance}
-use Rattle.instances.specs.Lying.{Lies, behind}
-use Rattle.checking.specs.Placed.{Known-arities, RightAt, LeftAt, RuleAt}
+use Rattle.instances.specs.Lying.{Lies, behind, Known-arities}
+use Rattle.checking.specs.Placed.{RightAt, LeftAt, RuleAt}
 use Rattle.checking.specs.Known.{Below, Known, Scene, Uses}
 use Rattle.checking.specs.Found.{Finds}
 

@@ -142,7 +142,7 @@ fn descent_by(
     requires { ⌜ 8192 ≤ length (now w) ⌝ }
     ensures { λ r. ⌜ DescentBy (now (book .entry)) (now (certificate .entry)) left right base rule at (now (w .entry)) (now (w .exit)) r ⌝ }
 {
-    let calls = checking::field(book, 4, rule);
+    let calls = instances::field(book, 4, rule);
     match descent_call(book, certificate, w, left, right, base, calls.at) {
         Found::Fault(n, p) => Found::Fault(n, p),
         Found::Good(_) => level_right(book, certificate, w, right, at),
@@ -161,10 +161,10 @@ fn descent_on(
     requires { ⌜ 8192 ≤ length (now w) ⌝ }
     ensures { λ r. ⌜ DescentOn (now (book .entry)) (now (certificate .entry)) left right base (now (w .entry)) (now (w .exit)) r ⌝ }
 {
-    let rule = checking::field(certificate, 8, base.end);
+    let rule = instances::field(certificate, 8, base.end);
     let k = rule.value as usize;
     let begin = checking::noted(w, k);
-    let end = fillings::list_filling(book, certificate, w, 832, rule.at);
+    let end = instances::fillings::list_filling(book, certificate, w, 832, rule.at);
     descent_by(book, certificate, w, left, right, base, begin, end)
 }
 

@@ -1,6 +1,10 @@
-// Terms that lie packed in a file: the walk over one, and the normal form of an instance built in one pass.
+// Terms that lie packed in a file: the walk over one, and the normal form of an instance built in one pass; fields and fillings there.
+pub mod fillings;
+mod nodes;
+
 use bits::Cursor;
 use bits::Field;
+use nodes::header_at;
 use table::Item;
 use table::Pushed;
 ghost use mathlib.Core.Path.{_≡_};
@@ -13,10 +17,16 @@ ghost use Rattle.patterns.specs.Push.{retag};
 ghost use Rattle.table.specs.Answer.{Says};
 ghost use Rattle.table.specs.Nodes.{stack, load};
 ghost use Rattle.table.specs.Sides.{Room, Took};
+ghost use Rattle.instances.specs.Taking.{Takes};
 ghost use Rattle.instances.specs.Instances.{Skips, Levels, Builds};
-ghost use Rattle.instances.specs.Headers.{variableAt, symbolAt, powerAt, headerAt};
 ghost use Rattle.instances.specs.Walks.{single, Next, walked, Calm};
 ghost use Rattle.instances.specs.Filled.{wordOf, filled};
+
+// A field, and the bit behind it.
+pub struct Read {
+    pub value: u16,
+    pub at: usize,
+}
 
 // The header of a node, with the cursor past it: a variable, a symbol with its arity, or a power of a symbol with a and b. It is missing where a field
 // runs past the end or the tag is 3.
@@ -39,56 +49,15 @@ pub enum Side {
     Full,
 }
 
-// A variable, behind its tag.
-fn variable(s: &[u8], c: Cursor) -> Header
-    ensures { λ r. ⌜ r ≡ variableAt (now (s .entry)) (c .at) ⌝ }
-{
-    match c.take(6, s) {
-        Field::Got(x, d) => Header::Variable(x, d),
-        Field::Past => Header::Missing,
-    }
-}
-
-// A symbol, behind its tag.
-fn symbol(book: &[u8], s: &[u8], c: Cursor) -> Header
-    ensures { λ r. ⌜ r ≡ symbolAt (now (book .entry)) (now (s .entry)) (c .at) ⌝ }
-{
-    let none = [0u16; 0];
-    match c.take(8, s) {
-        Field::Got(f, d) => Header::Symbol(f, terms::arity(book, &none, false, f), d),
-        Field::Past => Header::Missing,
-    }
-}
-
-// A power, behind its tag.
-fn power(s: &[u8], c: Cursor) -> Header
-    ensures { λ r. ⌜ r ≡ powerAt (now (s .entry)) (c .at) ⌝ }
-{
-    let Field::Got(f, d) = c.take(8, s) else {
-        return Header::Missing;
-    };
-    let Field::Got(a, e) = d.take(12, s) else {
-        return Header::Missing;
-    };
-    let Field::Got(b, g) = e.take(12, s) else {
-        return Header::Missing;
-    };
-    Header::Power(f, a, b, g)
-}
-
-// The header of the node at a bit.
-fn header_at(book: &[u8], s: &[u8], at: usize) -> Header
-    ensures { λ r. ⌜ r ≡ headerAt (now (book .entry)) (now (s .entry)) at ⌝ }
+// The field of w bits at a bit.
+pub fn field(s: &[u8], w: usize, at: usize) -> Read
+    requires { ⌜ w ≤ 16 ⌝ }
+    ensures { λ r. ⌜ Takes (now (s .entry)) w at r ⌝ }
 {
     let c = Cursor { at };
-    let Field::Got(tag, d) = c.take(2, s) else {
-        return Header::Missing;
-    };
-    match tag {
-        0 => variable(s, d),
-        1 => symbol(book, s, d),
-        2 => power(s, d),
-        _ => Header::Missing,
+    match c.take(w, s) {
+        Field::Past => Read { value: 0, at: 0 },
+        Field::Got(v, d) => Read { value: v, at: d.at },
     }
 }
 

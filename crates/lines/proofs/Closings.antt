@@ -18,7 +18,7 @@ use Rattle.layout.specs.Carried.{carried}
 use Rattle.verdicts.specs.Verdicts.{paper}
 use Rattle.verdicts.proofs.Parted.{parted-closing}
 use Rattle.verdicts.specs.declared.Verdict.{Verdict as Ruling}
-use Rattle.checking.specs.declared.Read.{Read}
+use Rattle.instances.specs.declared.Read.{Read}
 use Rattle.checking.specs.declared.Found.{Found}
 use Rattle.checking.specs.declared.Found.the-variants.{Fault, Good}
 use Rattle.checking.specs.declared.Kind.the-variants.{Closing as AtClosing}
@@ -26,14 +26,15 @@ use Rattle.checking.specs.declared.Subject.{Subject}
 use Rattle.checking.specs.declared.Subject.the-variants.{Empty, Used}
 use Rattle.checking.specs.declared.Behind.the-variants.{Nothing}
 use Rattle.instances.specs.Fillings.{Fills as Tells}
-use Rattle.fillings.specs.Listings.{Lists}
-use Rattle.checking.specs.Placed.{Takes, RightAt, ClaimAt}
+use Rattle.instances.specs.Listings.{Lists}
+use Rattle.checking.specs.Placed.{RightAt, ClaimAt}
+use Rattle.instances.specs.Taking.{Takes}
 use Rattle.checking.specs.Known.{Known}
 use Rattle.checking.specs.Subjects.{Means, PlainRight}
 use Rattle.checking.specs.Found.{Finds}
 use Rattle.checking.specs.Asked.{asked-at, checks-of, end-of, Checks}
 use Rattle.lines.specs.Certificates.{pace-of, ClosingFound, ClosingBy, ClosingAt}
-use Rattle.checking.proofs.Using.{rest-at}
+use Rattle.instances.proofs.Taking.{rest-at}
 use Rattle.checking.proofs.Frames.{below-less, kept-below, known-below, tells-below}
 use Rattle.checking.proofs.Meanings.{filled-means}
 use Rattle.checking.proofs.Finding.{fault-unmet, at-fault, at-good, finds-stop, finds-then}

@@ -15,9 +15,9 @@ use Rattle.grammar.specs.Limits.{ClaimFits, KindFits, LinesFit, ClosingFits, ca
 use Rattle.verdicts.specs.Verdicts.{paper}
 use Rattle.verdicts.specs.declared.Verdict.{Verdict as Ruling}
 use Rattle.checking.specs.declared.Found.{Found}
-use Rattle.instances.specs.Lying.{Lies}
+use Rattle.instances.specs.Lying.{Lies, Known-arities}
 use Rattle.instances.specs.Fillings.{Fills as Tells}
-use Rattle.checking.specs.Placed.{Known-arities, RightAt, LeftAt}
+use Rattle.checking.specs.Placed.{RightAt, LeftAt}
 use Rattle.checking.specs.Known.{Below, Known}
 use Rattle.checking.specs.Found.{Finds}
 

@@ -48,7 +48,7 @@ fn line(book: &[u8], certificate: &[u8], w: &mut [u64], at: usize, k: usize) -> 
     requires { ⌜ (8192 ≤ length (now w)) × (k < 256) ⌝ }
     ensures { λ r. ⌜ LineAt (now (book .entry)) (now (certificate .entry)) at k (now (w .entry)) (now (w .exit)) r ⌝ }
 {
-    let tag = checking::field(certificate, 1, at);
+    let tag = instances::field(certificate, 1, at);
     let left = tag.at;
     let right = instances::skip(book, certificate, left);
     let rest = checking::pass_right(book, certificate, right);
@@ -139,11 +139,11 @@ fn closing(book: &[u8], certificate: &[u8], w: &mut [u64], at: usize) -> Verdict
     requires { ⌜ 8192 ≤ length (now w) ⌝ }
     ensures { λ r. ⌜ ClosingAt (now (book .entry)) (now (certificate .entry)) at (now (w .entry)) (now (w .exit)) r ⌝ }
 {
-    let line = checking::field(certificate, 8, at);
+    let line = instances::field(certificate, 8, at);
     let n = line.value as usize;
-    let k = checking::field(certificate, 12, line.at);
-    let alpha = checking::field(certificate, 12, k.at);
-    fillings::list_filling(book, certificate, w, 896, alpha.at);
+    let k = instances::field(certificate, 12, line.at);
+    let alpha = instances::field(certificate, 12, k.at);
+    instances::fillings::list_filling(book, certificate, w, 896, alpha.at);
     closing_by(book, certificate, w, n, k.value, alpha.value)
 }
 
@@ -175,7 +175,7 @@ fn prepare(book: &[u8], w: &mut [u64])
     requires { ⌜ 8192 ≤ length (now w) ⌝ }
     ensures { λ _. ⌜ Prepares (now (book .entry)) (now (w .entry)) (now (w .exit)) ⌝ }
 {
-    fillings::forget(w, 768);
+    instances::fillings::forget(w, 768);
     checking::index_rules(book, w);
 }
 
@@ -185,7 +185,7 @@ pub fn judge_lines(book: &[u8], certificate: &[u8], w: &mut [u64]) -> Verdict
     ensures { λ r. ⌜ JudgesLines (now (book .entry)) (now (certificate .entry)) (now (w .entry)) (now (w .exit)) r ⌝ }
 {
     prepare(book, w);
-    let count = checking::field(certificate, 8, 0);
+    let count = instances::field(certificate, 8, 0);
     let n = count.value as usize;
     lines(book, certificate, w, count.at, 0, n)
 }

@@ -17,7 +17,7 @@ use Rattle.patterns.specs.Checks.{instance, instance-mark}
 use Rattle.patterns.specs.Judge.{Check, compare, pending, parts}
 use Rattle.grammar.specs.Listing.{if-any, term-fields, use-fields}
 use Rattle.grammar.specs.Limits.{RootFits, LastFits}
-use Rattle.checking.specs.declared.Read.{Read}
+use Rattle.instances.specs.declared.Read.{Read}
 use Rattle.checking.specs.declared.Found.{Found}
 use Rattle.checking.specs.declared.Found.the-variants.{Fault, Good}
 use Rattle.checking.specs.declared.Kind.the-variants.{Unfold}
@@ -28,7 +28,7 @@ use Rattle.checking.specs.declared.Instance.{Instance}
 use Rattle.checking.specs.declared.Subject.{Subject}
 use Rattle.checking.specs.declared.Subject.the-variants.{Call, Used}
 use Rattle.instances.specs.Lying.{Lies, behind}
-use Rattle.checking.specs.Placed.{Takes}
+use Rattle.instances.specs.Taking.{Takes}
 use Rattle.checking.specs.Known.{Uses, ReadsUse}
 use Rattle.checking.specs.Subjects.{Means, PlainRight, UsedRight}
 use Rattle.checking.specs.Found.{Finds}
@@ -36,7 +36,7 @@ use Rattle.checking.specs.Rights.{lead}
 use Rattle.checking.specs.Asked.{asked-at, checks-of, end-of, Checks}
 use Rattle.unfolds.specs.Unfoldings.{BehindStop, EndsAt, CallsAt, Unfolding, StopsBy, PartBy, EndsBy, EndsUsed, Ends}
 use Rattle.instances.proofs.Lying.{lies-front}
-use Rattle.checking.proofs.Using.{rest-at}
+use Rattle.instances.proofs.Taking.{rest-at}
 use Rattle.checking.proofs.Frames.{below-then, below-less, known-below, scene-below, uses-below}
 use Rattle.checking.proofs.Meanings.{call-means, used-means, right-itself}
 use Rattle.checking.proofs.Finding.{finds-fault, finds-last, finds-stop, finds-then, finds-ending}

@@ -11,14 +11,15 @@ use Rattle.patterns.specs.Certificate.{Claim}
 use Rattle.patterns.specs.Judge.{Check, given}
 use Rattle.grammar.specs.Listing.{term-fields, rule-fields}
 use Rattle.grammar.specs.Limits.{call-counts}
-use Rattle.checking.specs.declared.Read.{Read}
+use Rattle.instances.specs.declared.Read.{Read}
 use Rattle.checking.specs.declared.Found.{Found}
 use Rattle.instances.specs.Lying.{Lies, behind}
-use Rattle.checking.specs.Placed.{Takes, RuleAt}
+use Rattle.checking.specs.Placed.{RuleAt}
+use Rattle.instances.specs.Taking.{Takes}
 use Rattle.checking.specs.Found.{Finds}
 use Rattle.unfolds.specs.Unfoldings.{CallsAt}
 use Rattle.instances.proofs.Lying.{lies-front, lies-back}
-use Rattle.checking.proofs.Using.{rest-at}
+use Rattle.instances.proofs.Taking.{rest-at}
 
 -- ---- what a use names
 

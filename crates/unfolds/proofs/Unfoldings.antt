@@ -16,7 +16,7 @@ use Rattle.patterns.specs.Certificate.{Fills, by, Mark, Claim, Use, Stop, fact,
 use Rattle.patterns.specs.Judge.{Check, compare, parts, stops, line-checks}
 use Rattle.grammar.specs.Listing.{Fields, if-any, term-fields, use-fields, filling-fields, stop-fields, stop-number, kind-fields}
 use Rattle.grammar.specs.Limits.{UseFits, LastFits, StopFits, KindFits}
-use Rattle.checking.specs.declared.Read.{Read}
+use Rattle.instances.specs.declared.Read.{Read}
 use Rattle.checking.specs.declared.Found.{Found}
 use Rattle.checking.specs.declared.Found.the-variants.{Fault, Good}
 use Rattle.checking.specs.declared.Kind.the-variants.{Unfold}
@@ -24,8 +24,9 @@ use Rattle.checking.specs.declared.Behind.the-variants.{Judged, Nothing}
 use Rattle.checking.specs.declared.Instance.{Instance}
 use Rattle.checking.specs.declared.Subject.the-variants.{Empty, Call, Plain}
 use Rattle.instances.specs.Lying.{Lies, behind}
-use Rattle.fillings.specs.Listings.{Lists}
-use Rattle.checking.specs.Placed.{Takes, RightAt, LeftAt, RuleAt}
+use Rattle.instances.specs.Listings.{Lists}
+use Rattle.checking.specs.Placed.{RightAt, LeftAt, RuleAt}
+use Rattle.instances.specs.Taking.{Takes}
 use Rattle.checking.specs.Known.{Scene, ReadsUse}
 use Rattle.checking.specs.Subjects.{Means}
 use Rattle.checking.specs.Found.{Finds}
@@ -33,7 +34,7 @@ use Rattle.checking.specs.Rights.{lead}
 use Rattle.checking.specs.Asked.{asked-at, checks-of, end-of, Checks}
 use Rattle.unfolds.specs.Unfoldings.{CallsAt, Unfolding, StopsBy, PartBy, Ends, Parts, Stops, UnfoldsBy, UnfoldAt}
 use Rattle.instances.proofs.Lying.{lies-front, lies-back}
-use Rattle.checking.proofs.Using.{rest-at}
+use Rattle.instances.proofs.Taking.{rest-at}
 use Rattle.checking.proofs.Frames.{below-then, below-less, kept-below, known-below, scene-below}
 use Rattle.checking.proofs.Meanings.{call-means, left-itself}
 use Rattle.checking.proofs.Finding.{finds-stop, finds-then, finds-ending}

@@ -137,7 +137,7 @@ fn last(
     requires { ⌜ 8192 ≤ length (now w) ⌝ }
     ensures { λ r. ⌜ Ends (now (book .entry)) (now (certificate .entry)) right j count call at (now (w .entry)) (now (w .exit)) r ⌝ }
 {
-    let any = checking::field(certificate, 1, at);
+    let any = instances::field(certificate, 1, at);
     let use_at = any.at;
     if any.value == 0 {
         return stop_by(book, certificate, w, right, Subject::Call(call), use_at);
@@ -215,7 +215,7 @@ fn unfold_by(
     requires { ⌜ (8192 ≤ length (now w)) × (k < 256) × (i ≤ 15) ⌝ }
     ensures { λ r. ⌜ UnfoldsBy (now (book .entry)) (now (certificate .entry)) left right k i at (now (w .entry)) (now (w .exit)) r ⌝ }
 {
-    let calls = checking::field(book, 4, checking::noted(w, k));
+    let calls = instances::field(book, 4, checking::noted(w, k));
     let count = calls.value as usize;
     let head = Subject::Call(calls.at);
     match checking::check(
@@ -246,10 +246,10 @@ pub fn unfold(
     requires { ⌜ 8192 ≤ length (now w) ⌝ }
     ensures { λ r. ⌜ UnfoldAt (now (book .entry)) (now (certificate .entry)) left right at (now (w .entry)) (now (w .exit)) r ⌝ }
 {
-    let rule = checking::field(certificate, 8, at);
+    let rule = instances::field(certificate, 8, at);
     let k = rule.value as usize;
-    let stop = checking::field(certificate, 4, rule.at);
+    let stop = instances::field(certificate, 4, rule.at);
     let i = stop.value as usize;
-    let uses = fillings::list_filling(book, certificate, w, 832, stop.at);
+    let uses = instances::fillings::list_filling(book, certificate, w, 832, stop.at);
     unfold_by(book, certificate, w, left, right, k, i, uses)
 }

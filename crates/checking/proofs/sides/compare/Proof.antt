@@ -1,6 +1,5 @@
 -- `checking::sides::compare` meets its contract.
-use Rattle.checking.proofs.Subjects.{sides-room}
-use Rattle.checking.proofs.Subjects.{first-full, second-full, compares-equal, compares-unequal}
+use Rattle.checking.proofs.Subjects.{sides-room, first-full, second-full, compares-equal, compares-unequal}
 use borrow.Author.Needs.{needs}
 use Rattle.checking.proofs.sides.compare.Statement.{statement}
 use Rattle.checking.proofs.sides.compare.Tie as tie
