@@ -15,12 +15,12 @@ use Rattle.patterns.specs.Demand.{level}
 use Rattle.patterns.specs.Judge.{Check, check, compare, line-checks}
 use Rattle.grammar.specs.Listing.{term-fields, kind-fields, filling-fields}
 use Rattle.grammar.specs.Limits.{RootFits, FillsFit, KindFits, call-counts}
-use Rattle.checking.specs.declared.Found.{Found}
-use Rattle.checking.specs.declared.Instance.{Instance}
+use Rattle.comparing.specs.declared.Found.{Found}
+use Rattle.begins.specs.declared.Instance.{Instance}
 use Rattle.instances.specs.Lying.{Lies, behind, Known-arities}
-use Rattle.checking.specs.Placed.{RightAt, LeftAt, RuleAt}
-use Rattle.checking.specs.Known.{Below, Known, Scene, Uses}
-use Rattle.checking.specs.Found.{Finds}
+use Rattle.begins.specs.Placed.{RightAt, LeftAt, RuleAt}
+use Rattle.begins.specs.Known.{Below, Known, Scene, Uses}
+use Rattle.comparing.specs.Found.{Finds}
 
 -- what a descent's parts are judged over: the table, both sides of the line, and its base, which was read
 pub record Descending (book cert w ars : List ℕ) (B : Book Exp) (es : List (Claim Exp)) (θ : Fills Exp) (left right : ℕ) (l : Claim Exp) (u : Use Exp Pair) (c : Claim Exp) (base : Instance) : Type 0 where

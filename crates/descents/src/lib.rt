@@ -1,9 +1,9 @@
 // The checks of a descent.
-use checking::Behind;
-use checking::Found;
-use checking::Instance;
-use checking::Kind;
-use checking::Subject;
+use begins::Instance;
+use comparing::Behind;
+use comparing::Found;
+use comparing::Kind;
+use comparing::Subject;
 ghost use Prim.Native.Nat.{_≤_};
 ghost use lib.ListN.{length};
 ghost use Rattle.descents.specs.Descents.{DescentBase, DescentHead, DescentCall, LevelRight, DescentBy, DescentOn, DescentAt};
@@ -21,9 +21,9 @@ fn descent_base(
     ensures { λ r. ⌜ DescentBase (now (book .entry)) (now (certificate .entry)) left right base (now (w .entry)) (now (w .exit)) r ⌝ }
 {
     let theirs = Subject::Used(base.left, base.i, base.j);
-    let their_right = checking::used_right(certificate, base.right, base.i, base.j);
-    let own_right = checking::plain_right(certificate, right, 0, 0);
-    match checking::check(
+    let their_right = comparing::used_right(certificate, base.right, base.i, base.j);
+    let own_right = comparing::plain_right(certificate, right, 0, 0);
+    match comparing::check(
         book,
         certificate,
         w,
@@ -35,7 +35,7 @@ fn descent_base(
         Subject::Plain(left, 0, 0),
     ) {
         Found::Fault(n, p) => Found::Fault(n, p),
-        Found::Good(_) => checking::check(
+        Found::Good(_) => comparing::check(
             book,
             certificate,
             w,
@@ -64,7 +64,7 @@ fn descent_head(
 {
     match descent_base(book, certificate, w, left, right, base) {
         Found::Fault(n, p) => Found::Fault(n, p),
-        Found::Good(_) => checking::check(
+        Found::Good(_) => comparing::check(
             book,
             certificate,
             w,
@@ -93,7 +93,7 @@ fn descent_call(
 {
     match descent_head(book, certificate, w, left, right, base, head) {
         Found::Fault(n, p) => Found::Fault(n, p),
-        Found::Good(call) => checking::check(
+        Found::Good(call) => comparing::check(
             book,
             certificate,
             w,
@@ -112,7 +112,7 @@ fn level_right(book: &[u8], certificate: &[u8], w: &mut [u64], right: usize, at:
     requires { ⌜ 8192 ≤ length (now w) ⌝ }
     ensures { λ r. ⌜ LevelRight (now (book .entry)) (now (certificate .entry)) right at (now (w .entry)) (now (w .exit)) r ⌝ }
 {
-    match checking::check(
+    match comparing::check(
         book,
         certificate,
         w,
@@ -163,7 +163,7 @@ fn descent_on(
 {
     let rule = instances::field(certificate, 8, base.end);
     let k = rule.value as usize;
-    let begin = checking::noted(w, k);
+    let begin = begins::noted(w, k);
     let end = instances::fillings::list_filling(book, certificate, w, 832, rule.at);
     descent_by(book, certificate, w, left, right, base, begin, end)
 }
@@ -180,6 +180,6 @@ pub fn descent(
     requires { ⌜ 8192 ≤ length (now w) ⌝ }
     ensures { λ r. ⌜ DescentAt (now (book .entry)) (now (certificate .entry)) left right at (now (w .entry)) (now (w .exit)) r ⌝ }
 {
-    let base = checking::read_use(book, certificate, w, at);
+    let base = begins::read_use(book, certificate, w, at);
     descent_on(book, certificate, w, left, right, base)
 }

@@ -18,18 +18,18 @@ use Rattle.verdicts.specs.Verdicts.{paper}
 use Rattle.verdicts.proofs.Parted.{parted-line}
 use Rattle.verdicts.specs.declared.Verdict.{Verdict as Ruling}
 use Rattle.instances.specs.declared.Read.{Read}
-use Rattle.checking.specs.declared.Found.{Found}
-use Rattle.checking.specs.declared.Found.the-variants.{Fault, Good}
+use Rattle.comparing.specs.declared.Found.{Found}
+use Rattle.comparing.specs.declared.Found.the-variants.{Fault, Good}
 use Rattle.instances.specs.Lying.{Lies}
 use Rattle.instances.specs.Listings.{Forgets}
-use Rattle.checking.specs.Placed.{ClaimAt, Indexes}
+use Rattle.begins.specs.Placed.{ClaimAt, Indexes}
 use Rattle.instances.specs.Taking.{Takes}
-use Rattle.checking.specs.Known.{Known}
+use Rattle.begins.specs.Known.{Known}
 use Rattle.lines.specs.Certificates.{LineAt, ClosingAt, LinesAt, Prepares, JudgesLines}
 use Rattle.instances.proofs.Lying.{lies-front, lies-back}
 use Rattle.instances.proofs.Taking.{rest-at}
-use Rattle.checking.proofs.Frames.{entry-above}
-use Rattle.checking.proofs.Finding.{at-fault, at-good}
+use Rattle.begins.proofs.Frames.{entry-above}
+use Rattle.comparing.proofs.Finding.{at-fault, at-good}
 use Rattle.lines.proofs.Claims.{length-more}
 use Rattle.lines.proofs.Placing.{fault-carried, placed-none, placed-fault}
 

@@ -18,20 +18,20 @@ use Rattle.patterns.specs.Judge.{Check, line-checks}
 use Rattle.grammar.specs.Listing.{if-any, term-fields, claim-fields, kind-fields, kind-number, line-fields}
 use Rattle.grammar.specs.Limits.{KindFits, call-counts}
 use Rattle.instances.specs.declared.Read.{Read}
-use Rattle.checking.specs.declared.Found.{Found}
+use Rattle.comparing.specs.declared.Found.{Found}
 use Rattle.instances.specs.Lying.{Lies, behind}
 use Rattle.instances.specs.Fillings.{entry}
 use Rattle.instances.specs.Instances.{Skips}
-use Rattle.checking.specs.Placed.{RightAt, LeftAt, RuleAt, ClaimAt, PassesRight}
+use Rattle.begins.specs.Placed.{RightAt, LeftAt, RuleAt, ClaimAt, PassesRight}
 use Rattle.instances.specs.Taking.{Takes}
-use Rattle.checking.specs.Known.{Known}
-use Rattle.checking.specs.Found.{Finds}
+use Rattle.begins.specs.Known.{Known}
+use Rattle.comparing.specs.Found.{Finds}
 use Rattle.unfolds.specs.Unfoldings.{UnfoldAt}
 use Rattle.descents.specs.Descents.{DescentAt}
 use Rattle.lines.specs.Certificates.{NotesLine, KindAt, LineAt}
 use Rattle.instances.proofs.Lying.{lies-front, lies-back}
 use Rattle.instances.proofs.Taking.{term-at, rest-at}
-use Rattle.checking.proofs.Frames.{known-below, found-below}
+use Rattle.begins.proofs.Frames.{known-below, found-below}
 
 -- ---- a line's claim among the others
 

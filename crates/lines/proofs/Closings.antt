@@ -19,26 +19,26 @@ use Rattle.verdicts.specs.Verdicts.{paper}
 use Rattle.verdicts.proofs.Parted.{parted-closing}
 use Rattle.verdicts.specs.declared.Verdict.{Verdict as Ruling}
 use Rattle.instances.specs.declared.Read.{Read}
-use Rattle.checking.specs.declared.Found.{Found}
-use Rattle.checking.specs.declared.Found.the-variants.{Fault, Good}
-use Rattle.checking.specs.declared.Kind.the-variants.{Closing as AtClosing}
-use Rattle.checking.specs.declared.Subject.{Subject}
-use Rattle.checking.specs.declared.Subject.the-variants.{Empty, Used}
-use Rattle.checking.specs.declared.Behind.the-variants.{Nothing}
+use Rattle.comparing.specs.declared.Found.{Found}
+use Rattle.comparing.specs.declared.Found.the-variants.{Fault, Good}
+use Rattle.comparing.specs.declared.Kind.the-variants.{Closing as AtClosing}
+use Rattle.comparing.specs.declared.Subject.{Subject}
+use Rattle.comparing.specs.declared.Subject.the-variants.{Empty, Used}
+use Rattle.comparing.specs.declared.Behind.the-variants.{Nothing}
 use Rattle.instances.specs.Fillings.{Fills as Tells}
 use Rattle.instances.specs.Listings.{Lists}
-use Rattle.checking.specs.Placed.{RightAt, ClaimAt}
+use Rattle.begins.specs.Placed.{RightAt, ClaimAt}
 use Rattle.instances.specs.Taking.{Takes}
-use Rattle.checking.specs.Known.{Known}
-use Rattle.checking.specs.Subjects.{Means, PlainRight}
-use Rattle.checking.specs.Found.{Finds}
-use Rattle.checking.specs.Asked.{asked-at, checks-of, end-of, Checks}
+use Rattle.begins.specs.Known.{Known}
+use Rattle.comparing.specs.Subjects.{Means, PlainRight}
+use Rattle.comparing.specs.Found.{Finds}
+use Rattle.comparing.specs.Asked.{asked-at, checks-of, end-of, Checks}
 use Rattle.lines.specs.Certificates.{pace-of, ClosingFound, ClosingBy, ClosingAt}
 use Rattle.instances.proofs.Taking.{rest-at}
-use Rattle.checking.proofs.Frames.{below-less, kept-below, known-below, tells-below}
-use Rattle.checking.proofs.Meanings.{filled-means}
-use Rattle.checking.proofs.Finding.{fault-unmet, at-fault, at-good, finds-stop, finds-then}
-use Rattle.unfolds.proofs.Naming.{named, finds-given}
+use Rattle.begins.proofs.Frames.{below-less, kept-below, known-below, tells-below}
+use Rattle.comparing.proofs.Meanings.{filled-means}
+use Rattle.comparing.proofs.Finding.{fault-unmet, at-fault, at-good, finds-stop, finds-then, finds-given}
+use Rattle.patterns.proofs.Every.{below-listed}
 use Rattle.lines.proofs.Placing.{fault-carried, closed-fault, closed-none}
 
 -- ---- the closing
@@ -63,8 +63,8 @@ module _ {book cert w v : List ℕ} {left right : ℕ} {r : Found} (first : Chec
   unfolding closing-checks
   closing-empty el er q = record {
     told = λ ars B es known d e p filled small.
-        let n = named es (d .line) small in
-        (0, finds-given _ (n .found) (finds-stop _ (there-found known (closed-claim el er known (d .line) e (n .claim) (n .found))) q));
+        let n = below-listed es (d .line) small in
+        (0, finds-given _ (n .1) (finds-stop _ (there-found known (closed-claim el er known (d .line) e (n .0) (n .1))) q));
     size = first .below .size;
   }
 
@@ -89,10 +89,10 @@ module _ {book cert w v : List ℕ} {left right : ℕ} {r : Found} (first : Chec
     unfolding closing-checks
     closing-loop el er = record {
       told = λ ars B es known d e p filled small.
-          let n = named es (d .line) small in
-          let here = closed-claim el er known (d .line) e (n .claim) (n .found) in
-          let loop = loop-found known d p filled (n .claim) here (n .claim .right) refl in
-          (loop .0, finds-given _ (n .found) (finds-then (there-found known here) good (λ z. loop .1)));
+          let n = below-listed es (d .line) small in
+          let here = closed-claim el er known (d .line) e (n .0) (n .1) in
+          let loop = loop-found known d p filled (n .0) here (n .0 .right) refl in
+          (loop .0, finds-given _ (n .1) (finds-then (there-found known here) good (λ z. loop .1)));
       size = second .below .size ∙ first .below .size;
     }
 

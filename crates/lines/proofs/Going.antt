@@ -8,8 +8,8 @@ use Rattle.patterns.specs.Judge.{refuse}
 use Rattle.layout.specs.Carried.{carried}
 use Rattle.verdicts.specs.Verdicts.{paper}
 use Rattle.verdicts.specs.declared.Verdict.{Verdict as Ruling}
-use Rattle.checking.specs.declared.Found.{Found}
-use Rattle.checking.specs.declared.Found.the-variants.{Fault, Good}
+use Rattle.comparing.specs.declared.Found.{Found}
+use Rattle.comparing.specs.declared.Found.the-variants.{Fault, Good}
 use Rattle.lines.specs.Certificates.{LineAt, ClosingAt, LinesAt}
 use Rattle.lines.proofs.Certifying.{lines-none, lines-fault, lines-on}
 

@@ -14,12 +14,12 @@ use Rattle.grammar.specs.Listing.{line-fields, kind-fields, kind-number, closin
 use Rattle.grammar.specs.Limits.{ClaimFits, KindFits, LinesFit, ClosingFits, call-counts, BookFits, CertificateFits}
 use Rattle.verdicts.specs.Verdicts.{paper}
 use Rattle.verdicts.specs.declared.Verdict.{Verdict as Ruling}
-use Rattle.checking.specs.declared.Found.{Found}
+use Rattle.comparing.specs.declared.Found.{Found}
 use Rattle.instances.specs.Lying.{Lies, Known-arities}
 use Rattle.instances.specs.Fillings.{Fills as Tells}
-use Rattle.checking.specs.Placed.{RightAt, LeftAt}
-use Rattle.checking.specs.Known.{Below, Known}
-use Rattle.checking.specs.Found.{Finds}
+use Rattle.begins.specs.Placed.{RightAt, LeftAt}
+use Rattle.begins.specs.Known.{Below, Known}
+use Rattle.comparing.specs.Found.{Finds}
 
 abbrev pub pace-of : ℕ → ℕ → Pace
 pace-of k α = record { k = k; α = α }

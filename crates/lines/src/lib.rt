@@ -1,8 +1,8 @@
 // The lines of a certificate, each over those before it, and the closing: the verdict on two good files.
-use checking::Behind;
-use checking::Found;
-use checking::Kind;
-use checking::Subject;
+use comparing::Behind;
+use comparing::Found;
+use comparing::Kind;
+use comparing::Subject;
 use layout::Place;
 use verdicts::Acceptance;
 use verdicts::Verdict;
@@ -51,7 +51,7 @@ fn line(book: &[u8], certificate: &[u8], w: &mut [u64], at: usize, k: usize) -> 
     let tag = instances::field(certificate, 1, at);
     let left = tag.at;
     let right = instances::skip(book, certificate, left);
-    let rest = checking::pass_right(book, certificate, right);
+    let rest = begins::pass_right(book, certificate, right);
     note_line(w, k, left, right);
     behind_claim(book, certificate, w, tag.value, left, right, rest)
 }
@@ -68,11 +68,11 @@ fn closing_parts(
     requires { ⌜ (8192 ≤ length (now w)) × (line < 256) × (k < 4096) × (alpha < 4096) ⌝ }
     ensures { λ r. ⌜ ClosingFound (now (book .entry)) (now (certificate .entry)) line k alpha (now (w .entry)) (now (w .exit)) r ⌝ }
 {
-    let left = checking::noted(w, 256 + line);
-    let right = checking::noted(w, 512 + line);
-    let from = checking::plain_right(certificate, right, 1, alpha);
+    let left = begins::noted(w, 256 + line);
+    let right = begins::noted(w, 512 + line);
+    let from = comparing::plain_right(certificate, right, 1, alpha);
     let to = Subject::Used(left, 1, alpha + k);
-    match checking::check(
+    match comparing::check(
         book,
         certificate,
         w,
@@ -84,7 +84,7 @@ fn closing_parts(
         Subject::Empty,
     ) {
         Found::Fault(n, p) => Found::Fault(n, p),
-        Found::Good(_) => checking::check(
+        Found::Good(_) => comparing::check(
             book,
             certificate,
             w,
@@ -176,7 +176,7 @@ fn prepare(book: &[u8], w: &mut [u64])
     ensures { λ _. ⌜ Prepares (now (book .entry)) (now (w .entry)) (now (w .exit)) ⌝ }
 {
     instances::fillings::forget(w, 768);
-    checking::index_rules(book, w);
+    begins::index_rules(book, w);
 }
 
 // The verdict on a good certificate beside a good book.

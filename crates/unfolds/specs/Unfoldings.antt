@@ -1,5 +1,5 @@
 -- What the checks of an unfold find, part by part.
-use Prim.Native.Nat.{ℕ, _+_, _≤_, _<_}
+use Prim.Native.Nat.{ℕ, _+_, _<_}
 use mathlib.Core.Path.{_≡_}
 use mathlib.Core.List.{List, [], _∷_, _++_, flatMap}
 use mathlib.Core.Option.{Option, some}
@@ -12,18 +12,18 @@ use Rattle.patterns.specs.Derive.{Rule, Book}
 use Rattle.patterns.specs.Certificate.{Fills, by, Mark, Claim, Use, Stop, unfolds}
 use Rattle.patterns.specs.Checks.{instance, instance-mark}
 use Rattle.patterns.specs.Judge.{Check, compare, pending, parts, stops, line-checks}
-use Rattle.grammar.specs.Listing.{if-any, term-fields, use-fields, stop-fields, stop-number, kind-fields}
-use Rattle.grammar.specs.Limits.{RootFits, UseFits, LastFits, StopFits, KindFits, call-counts}
-use Rattle.checking.specs.declared.Found.{Found}
-use Rattle.checking.specs.declared.Behind.{Behind}
-use Rattle.checking.specs.declared.Instance.{Instance}
+use Rattle.grammar.specs.Listing.{if-any, use-fields, stop-fields, stop-number, kind-fields}
+use Rattle.grammar.specs.Limits.{UseFits, LastFits, StopFits, KindFits, call-counts}
+use Rattle.comparing.specs.declared.Found.{Found}
+use Rattle.comparing.specs.declared.Behind.{Behind}
+use Rattle.begins.specs.declared.Instance.{Instance}
 use Rattle.instances.specs.Lying.{Lies, behind}
-use Rattle.checking.specs.Placed.{RightAt, LeftAt}
-use Rattle.checking.specs.Known.{Below, Known, Scene, Uses}
-use Rattle.checking.specs.declared.Subject.{Subject}
-use Rattle.checking.specs.Subjects.{Means}
-use Rattle.checking.specs.Found.{Finds}
-use Rattle.checking.specs.Rights.{lead}
+use Rattle.begins.specs.Placed.{RightAt, LeftAt, CallsAt}
+use Rattle.begins.specs.Known.{Below, Known, Scene, Uses}
+use Rattle.comparing.specs.declared.Subject.{Subject}
+use Rattle.comparing.specs.Subjects.{Means}
+use Rattle.comparing.specs.Found.{Finds}
+use Rattle.comparing.specs.Rights.{lead}
 
 -- 01: "for j = i < m it must not be [empty]; else 11": m is `count`, and the calls vs stand behind the j-th
 pub record BehindStop (j count : ℕ) (q : Behind) : Type 0 where
@@ -32,14 +32,6 @@ pub record BehindStop (j count : ℕ) (q : Behind) : Type 0 where
 -- the same found, with another end
 pub record EndsAt (found : Found) (at : ℕ) (r : Found) : Type 0 where
   pub told : (ks : List (Check Exp)) (e : ℕ) → Finds ks e found → Finds ks at r
-
--- the calls of a rule from part j on lie at a bit of the book; the rule has `count`
-pub record CallsAt (book ars : List ℕ) (at : ℕ) (vs : List Pattern) (j count : ℕ) : Type 0 where
-  pub lies : Lies book at (flatMap term-fields vs)
-  pub fits : Every (RootFits ars) vs
-  pub counted : count + 1 ≡ j + length vs
-  pub first : 1 ≤ j
-  pub few : count ≤ 8
 
 -- what an unfold's parts from j on are judged over: the table, the line's right, and the calls
 pub record Unfolding (book cert w ars : List ℕ) (B : Book Exp) (es : List (Claim Exp)) (θ : Fills Exp) (right : ℕ) (m : Mark Exp) (call : ℕ) (vs : List Pattern) (j count : ℕ) : Type 0 where

@@ -1,9 +1,9 @@
 // The checks of an unfold.
-use checking::Behind;
-use checking::Found;
-use checking::Instance;
-use checking::Kind;
-use checking::Subject;
+use begins::Instance;
+use comparing::Behind;
+use comparing::Found;
+use comparing::Kind;
+use comparing::Subject;
 ghost use Prim.Native.Nat.{_+_, _≤_, _<_};
 ghost use lib.ListN.{length};
 ghost use Rattle.unfolds.specs.Unfoldings.{BehindStop, EndsAt, StopsBy, PartBy, EndsBy, EndsUsed, Ends, Parts, Stops, UnfoldsBy, UnfoldAt};
@@ -40,8 +40,8 @@ fn stop_by(
     requires { ⌜ 8192 ≤ length (now w) ⌝ }
     ensures { λ r. ⌜ StopsBy (now (book .entry)) (now (certificate .entry)) right theirs at (now (w .entry)) (now (w .exit)) r ⌝ }
 {
-    let own = checking::plain_right(certificate, right, 1, 0);
-    let found = checking::check(
+    let own = comparing::plain_right(certificate, right, 1, 0);
+    let found = comparing::check(
         book,
         certificate,
         w,
@@ -69,7 +69,7 @@ fn part_by(
     ensures { λ r. ⌜ PartBy (now (book .entry)) (now (certificate .entry)) j behind call used (now (w .entry)) (now (w .exit)) r ⌝ }
 {
     let theirs = Subject::Used(used.left, used.i, used.j);
-    checking::check(
+    comparing::check(
         book,
         certificate,
         w,
@@ -96,7 +96,7 @@ fn last_by(
     requires { ⌜ 8192 ≤ length (now w) ⌝ }
     ensures { λ r. ⌜ EndsBy (now (book .entry)) (now (certificate .entry)) right j count call used (now (w .entry)) (now (w .exit)) r ⌝ }
 {
-    let theirs = checking::used_right(certificate, used.right, used.i, used.j);
+    let theirs = comparing::used_right(certificate, used.right, used.i, used.j);
     let end = used.end;
     let behind = behind_stop(j, count);
     match part_by(book, certificate, w, j, behind, call, used) {
@@ -119,7 +119,7 @@ fn last_used(
     requires { ⌜ 8192 ≤ length (now w) ⌝ }
     ensures { λ r. ⌜ EndsUsed (now (book .entry)) (now (certificate .entry)) right j count call at (now (w .entry)) (now (w .exit)) r ⌝ }
 {
-    let used = checking::read_use(book, certificate, w, at);
+    let used = begins::read_use(book, certificate, w, at);
     last_by(book, certificate, w, right, j, count, call, used)
 }
 
@@ -163,7 +163,7 @@ fn parts(
     if before == 0 {
         return last(book, certificate, w, right, j, count, call, at);
     }
-    let used = checking::read_use(book, certificate, w, at);
+    let used = begins::read_use(book, certificate, w, at);
     let end = used.end;
     match part_by(book, certificate, w, j, Behind::Judged, call, used) {
         Found::Fault(n, p) => Found::Fault(n, p),
@@ -215,10 +215,10 @@ fn unfold_by(
     requires { ⌜ (8192 ≤ length (now w)) × (k < 256) × (i ≤ 15) ⌝ }
     ensures { λ r. ⌜ UnfoldsBy (now (book .entry)) (now (certificate .entry)) left right k i at (now (w .entry)) (now (w .exit)) r ⌝ }
 {
-    let calls = instances::field(book, 4, checking::noted(w, k));
+    let calls = instances::field(book, 4, begins::noted(w, k));
     let count = calls.value as usize;
     let head = Subject::Call(calls.at);
-    match checking::check(
+    match comparing::check(
         book,
         certificate,
         w,
