@@ -12,6 +12,7 @@ use Rattle.patterns.specs.Term.{var, Filling}
 use Rattle.patterns.specs.First.{Exp, Pair}
 use Rattle.patterns.specs.Derive.{Book}
 use Rattle.patterns.specs.Certificate.{Fills, Claim, Use}
+use Rattle.table.specs.Places.{LEFTS, RIGHTS, EMPTY, OWN, USED, FIRST}
 use Rattle.table.specs.Sides.{Kept}
 use Rattle.begins.specs.declared.Instance.{Instance}
 use Rattle.instances.specs.Fillings.{entry, Entry, unlisted, Fills as Tells}
@@ -66,7 +67,7 @@ found-below [] k a e = let z : _≡_ {A = ℕ} 0 1 = cc in absurd (omega arith)
 found-below (b ∷ l) zero a e = omega arith
 found-below (b ∷ l) (suc k) a e = omega (arith, found-below l k a e)
 
-pub known-below : {book cert w v ars : List ℕ} {B : Book Exp} {es : List (Claim Exp)} → Below 832 w v → Known book cert w ars B es → Known book cert v ars B es
+pub known-below : {book cert w v ars : List ℕ} {B : Book Exp} {es : List (Claim Exp)} → Below OWN w v → Known book cert w ars B es → Known book cert v ars B es
 known-below {book} {cert} {w} {v} {ars} {B} {es} b k = record {
   arity = k .arity;
   few-rules = k .few-rules;
@@ -74,20 +75,20 @@ known-below {book} {cert} {w} {v} {ars} {B} {es} b k = record {
   rule = λ i r e. let l = found-below B i r e in subst (λ j. RuleAt book ars j r) (sym (b .low i (omega (arith, k .few-rules)))) (k .rule i r e);
   claim = λ i c e.
       let l = found-below es i c e in
-      let left = b .low (256 + i) (omega (arith, k .few-claims)) in
-      let right = b .low (512 + i) (omega (arith, k .few-claims)) in
-      subst (λ j. ClaimAt cert ars j (getD v (512 + i) 0) c) (sym left) (subst (λ j. ClaimAt cert ars (getD w (256 + i) 0) j c) (sym right) (k .claim i c e));
-  bare = λ x. entry-below 768 (omega arith) b x ∙ k .bare x;
+      let left = b .low (LEFTS + i) (omega (arith, k .few-claims)) in
+      let right = b .low (RIGHTS + i) (omega (arith, k .few-claims)) in
+      subst (λ j. ClaimAt cert ars j (getD v (RIGHTS + i) 0) c) (sym left) (subst (λ j. ClaimAt cert ars (getD w (LEFTS + i) 0) j c) (sym right) (k .claim i c e));
+  bare = λ x. entry-below EMPTY (omega arith) b x ∙ k .bare x;
 }
 
-pub scene-below : {book cert w v ars : List ℕ} {B : Book Exp} {es : List (Claim Exp)} {θ : Fills Exp} → Below 896 w v → Scene book cert w ars B es θ
+pub scene-below : {book cert w v ars : List ℕ} {B : Book Exp} {es : List (Claim Exp)} {θ : Fills Exp} → Below USED w v → Scene book cert w ars B es θ
     → Scene book cert v ars B es θ
 scene-below b s = record { known = known-below (below-less (omega arith) b) (s .known); own = tells-below (omega arith) b (s .own) }
 
-pub uses-below : {book cert w v ars : List ℕ} {u : Use Exp Pair} {c : Claim Exp} {r : Instance} → Below 1024 w v → Uses book cert w ars u c r
+pub uses-below : {book cert w v ars : List ℕ} {u : Use Exp Pair} {c : Claim Exp} {r : Instance} → Below FIRST w v → Uses book cert w ars u c r
     → Uses book cert v ars u c r
 uses-below b h = record { claim-at = h .claim-at; i = h .i; j = h .j; used = tells-below (omega arith) b (h .used) }
 
 -- no filling is a table of zeros
-pub bare-tells : {book cert w ars : List ℕ} {B : Book Exp} {es : List (Claim Exp)} → Known book cert w ars B es → Tells book cert w 768 var
+pub bare-tells : {book cert w ars : List ℕ} {B : Book Exp} {es : List (Claim Exp)} → Known book cert w ars B es → Tells book cert w EMPTY var
 bare-tells k = record { each = λ x. unlisted (k .bare x) }

@@ -8,6 +8,7 @@ use Rattle.bits.specs.Packed.{width}
 use Rattle.patterns.specs.First.{Exp, Pair}
 use Rattle.patterns.specs.Certificate.{Claim, Use}
 use Rattle.grammar.specs.Listing.{use-fields}
+use Rattle.table.specs.Places.{LEFTS, RIGHTS, USED}
 use Rattle.instances.specs.declared.Read.{Read}
 use Rattle.instances.specs.Listings.{Lists}
 use Rattle.begins.specs.Placed.{ClaimAt}
@@ -17,8 +18,8 @@ use Rattle.instances.proofs.Taking.{rest-at}
 use Rattle.begins.proofs.Frames.{kept-below}
 
 module _ {book cert : List ℕ} {at end : ℕ} {w after : List ℕ} {l i j : Read} {left right : ℕ} where
-  pub reads-use : Takes cert 8 at l → Takes cert 12 (l .at) i → Takes cert 12 (i .at) j → left ≡ getD w (256 + l .value) 0
-      → right ≡ getD w (512 + l .value) 0 → Lists book cert 896 (j .at) w after end
+  pub reads-use : Takes cert 8 at l → Takes cert 12 (l .at) i → Takes cert 12 (i .at) j → left ≡ getD w (LEFTS + l .value) 0
+      → right ≡ getD w (RIGHTS + l .value) 0 → Lists book cert USED (j .at) w after end
       → ReadsUse book cert at w after (record { left = left; right = right; i = i .value; j = j .value; end = end })
   unfolding use-fields width
   reads-use tl ti tj el er f = record {
@@ -32,10 +33,10 @@ module _ {book cert : List ℕ} {at end : ℕ} {w after : List ℕ} {l i j : Rea
     below = kept-below (f .kept);
   }
     where
-      named : (ars : List ℕ) (c : Claim Exp) (u : Use Exp Pair) → (l .value ≡ u .line) × (l .at ≡ at + 8) → left ≡ getD w (256 + l .value) 0
-          → right ≡ getD w (512 + l .value) 0 → ClaimAt cert ars (getD w (256 + u .line) 0) (getD w (512 + u .line) 0) c
+      named : (ars : List ℕ) (c : Claim Exp) (u : Use Exp Pair) → (l .value ≡ u .line) × (l .at ≡ at + 8) → left ≡ getD w (LEFTS + l .value) 0
+          → right ≡ getD w (RIGHTS + l .value) 0 → ClaimAt cert ars (getD w (LEFTS + u .line) 0) (getD w (RIGHTS + u .line) 0) c
           → ClaimAt cert ars left right c
       named ars c u x p q h =
-          let a : getD w (256 + u .line) 0 ≡ left = ap (λ k. getD w (256 + k) 0) (sym (x .0)) ∙ sym p in
-          let b : getD w (512 + u .line) 0 ≡ right = ap (λ k. getD w (512 + k) 0) (sym (x .0)) ∙ sym q in
-          subst (λ k. ClaimAt cert ars k right c) a (subst (λ k. ClaimAt cert ars (getD w (256 + u .line) 0) k c) b h)
+          let a : getD w (LEFTS + u .line) 0 ≡ left = ap (λ k. getD w (LEFTS + k) 0) (sym (x .0)) ∙ sym p in
+          let b : getD w (RIGHTS + u .line) 0 ≡ right = ap (λ k. getD w (RIGHTS + k) 0) (sym (x .0)) ∙ sym q in
+          subst (λ k. ClaimAt cert ars k right c) a (subst (λ k. ClaimAt cert ars (getD w (LEFTS + u .line) 0) k c) b h)

@@ -13,6 +13,7 @@ use Rattle.patterns.specs.Checks.{OnMark}
 use Rattle.grammar.specs.Books.{RuleBook}
 use Rattle.grammar.specs.Listing.{if-any, term-fields, rule-fields, book-fields}
 use Rattle.grammar.specs.Limits.{TermFits, RootFits, RuleFits, BookFits}
+use Rattle.table.specs.Places.{RULES, ROWS}
 use Rattle.table.specs.Sides.{Kept}
 use Rattle.instances.specs.Lying.{Lies, Known-arities}
 
@@ -67,4 +68,4 @@ pub record Notes (book : List ℕ) (at k n : ℕ) (w after : List ℕ) : Type 0 
 pub record Indexes (book w after : List ℕ) : Type 0 where
   pub told : (b : RuleBook) → Known-arities book (b .arities) → BookFits b → Lies book 0 (book-fields b)
       → (i : ℕ) (r : Rule Exp) → getElem? (b .rules) i ≡ some r → RuleAt book (b .arities) (getD after i 0) r
-  pub kept : Kept 0 256 w after
+  pub kept : Kept RULES ROWS w after

@@ -1,8 +1,13 @@
 // Where rules, lines and uses begin: the rules of a book noted in the work table, and a use read with what is noted there.
 use instances::field;
+use table::LEFTS;
+use table::RIGHTS;
+use table::RULES;
+use table::USED;
 ghost use mathlib.Core.Path.{_≡_};
 ghost use Prim.Native.Nat.{_+_, _≤_, _<_};
 ghost use lib.ListN.{length, getD};
+ghost use Rattle.table.specs.Places.{WORDS, ROWS, EMPTY};
 ghost use Rattle.begins.specs.Placed.{Passes, PassesRule, PassesRight, Notes, Indexes};
 ghost use Rattle.begins.specs.Known.{ReadsUse};
 
@@ -37,7 +42,7 @@ fn pass_rule(book: &[u8], at: usize) -> usize
 
 // The begins of the n rules at a bit, noted from word k on.
 fn note_rules(book: &[u8], w: &mut [u64], at: usize, k: usize, n: usize)
-    requires { ⌜ (k + n ≤ 256) × (8192 ≤ length (now w)) ⌝ }
+    requires { ⌜ (k + n ≤ ROWS) × (WORDS ≤ length (now w)) ⌝ }
     ensures { λ _. ⌜ Notes (now (book .entry)) at k n (now (w .entry)) (now (w .exit)) ⌝ }
 {
     if n == 0 {
@@ -50,14 +55,14 @@ fn note_rules(book: &[u8], w: &mut [u64], at: usize, k: usize, n: usize)
 
 // The begins of the book's rules, noted from word 0 on.
 pub fn index_rules(book: &[u8], w: &mut [u64])
-    requires { ⌜ 8192 ≤ length (now w) ⌝ }
+    requires { ⌜ WORDS ≤ length (now w) ⌝ }
     ensures { λ _. ⌜ Indexes (now (book .entry)) (now (w .entry)) (now (w .exit)) ⌝ }
 {
     let symbols = field(book, 8, 0);
     let n = symbols.value as usize;
     let rules = field(book, 8, 8 + 4 * n);
     let m = rules.value as usize;
-    note_rules(book, w, rules.at, 0, m);
+    note_rules(book, w, rules.at, RULES, m);
 }
 
 // Where what stands right of the arrow ends.
@@ -74,7 +79,7 @@ pub fn pass_right(book: &[u8], certificate: &[u8], at: usize) -> usize
 
 // A bit offset that was noted.
 pub fn noted(w: &[u64], k: usize) -> usize
-    requires { ⌜ (k < 768) × (8192 ≤ length (now w)) ⌝ }
+    requires { ⌜ (k < EMPTY) × (WORDS ≤ length (now w)) ⌝ }
     ensures { λ r. ⌜ r ≡ getD (now (w .entry)) k 0 ⌝ }
 {
     w[k] as usize
@@ -82,16 +87,16 @@ pub fn noted(w: &[u64], k: usize) -> usize
 
 // The use at a bit; its filling is indexed.
 pub fn read_use(book: &[u8], certificate: &[u8], w: &mut [u64], at: usize) -> Instance
-    requires { ⌜ 8192 ≤ length (now w) ⌝ }
+    requires { ⌜ WORDS ≤ length (now w) ⌝ }
     ensures { λ r. ⌜ ReadsUse (now (book .entry)) (now (certificate .entry)) at (now (w .entry)) (now (w .exit)) r ⌝ }
 {
     let line = field(certificate, 8, at);
     let k = line.value as usize;
     let i = field(certificate, 12, line.at);
     let j = field(certificate, 12, i.at);
-    let left = noted(w, 256 + k);
-    let right = noted(w, 512 + k);
-    let end = instances::fillings::list_filling(book, certificate, w, 896, j.at);
+    let left = noted(w, LEFTS + k);
+    let right = noted(w, RIGHTS + k);
+    let end = instances::fillings::list_filling(book, certificate, w, USED, j.at);
     Instance {
         left,
         right,

@@ -4,6 +4,7 @@ use mathlib.Core.Path.{_≡_, sym, subst, _∙_}
 use mathlib.Core.List.{List}
 use Rattle.patterns.specs.Certificate.{Mark}
 use Rattle.patterns.specs.First.{Exp}
+use Rattle.table.specs.Places.{FIRST}
 use Rattle.comparing.specs.declared.Found.{Found}
 use Rattle.comparing.specs.declared.Found.the-variants.{Fault, Good}
 use Rattle.comparing.specs.declared.Kind.{Kind}
@@ -26,7 +27,7 @@ use Rattle.comparing.proofs.Finding.{finds-stop, finds-then}
 
 module _ {book cert : List ℕ} {l n p right : ℕ} {q : Behind} {a b : Subject} {w : List ℕ} {x : Found} (k : Looks cert right q l p x) where
   pub led-fault : {m i : ℕ} → x ≡ Fault m i → LedEquals book cert l n p right q a b w w (Fault m i)
-  led-fault e = record { told = λ ars t u m i y d j z. finds-stop _ (k .told ars t u) e; below = below-self 1024 w }
+  led-fault e = record { told = λ ars t u m i y d j z. finds-stop _ (k .told ars t u) e; below = below-self FIRST w }
 
   pub led-on : {after : List ℕ} {i : ℕ} {r : Found} → x ≡ Good i → Equals book cert n p a b w after r → LedEquals book cert l n p right q a b w after r
   led-on e h = record {
@@ -38,7 +39,7 @@ module _ {book cert : List ℕ} {l n p right : ℕ} {q : Behind} {a b : Subject}
 
 module _ {book cert : List ℕ} {kind : Kind} {part right : ℕ} {q : Behind} {a b : Subject} {w after : List ℕ} {r : Found} {x : Asked} (e : x ≡ asked-at kind part) where
   -- the checks of what is asked are those of the part
-  made : Below 1024 w after
+  made : Below FIRST w after
       → ((ars : List ℕ) → Known-arities book ars → (t : Mark Exp) → RightAt cert ars right t → (m : Mark Exp) (i : ℕ) → Means book cert w a m i
       → (k : Mark Exp) (f : ℕ) → Means book cert w b k f → Finds (checks-of x part q t m k) (end-of x i) r)
       → Checks book cert kind part right q a b w after r
@@ -59,8 +60,8 @@ module _ {book cert : List ℕ} {kind : Kind} {part right : ℕ} {q : Behind} {a
 module _ {book cert : List ℕ} {kind : Kind} {part right : ℕ} {q : Behind} {a b : Subject} {w : List ℕ} {r : Found} {x : Asked} {n : ℕ} (e : x ≡ asked-at kind part) where
   pub made-level : x ≡ Level n → LooksLevel book cert right n part r → Checks book cert kind part right q a b w w r
   unfolding checks-of end-of
-  made-level s h = made (sym s ∙ e) (below-self 1024 w) (λ ars k t u m i y d f z. h .told ars k t u)
+  made-level s h = made (sym s ∙ e) (below-self FIRST w) (λ ars k t u m i y d f z. h .told ars k t u)
 
   pub made-present : x ≡ Present n → Looks cert right Pending n part r → Checks book cert kind part right q a b w w r
   unfolding checks-of end-of lead
-  made-present s h = made (sym s ∙ e) (below-self 1024 w) (λ ars k t u m i y d f z. h .told ars t u)
+  made-present s h = made (sym s ∙ e) (below-self FIRST w) (λ ars k t u m i y d f z. h .told ars t u)

@@ -14,6 +14,7 @@ use Rattle.patterns.specs.Checks.{OnMark, instance, instance-mark, reindex-mark
 use Rattle.patterns.proofs.Term.{fill-var}
 use Rattle.grammar.specs.Listing.{if-any, term-fields}
 use Rattle.grammar.specs.Limits.{RootFits}
+use Rattle.table.specs.Places.{USED}
 use Rattle.instances.specs.declared.Read.{Read}
 use Rattle.begins.specs.declared.Instance.{Instance}
 use Rattle.comparing.specs.declared.Subject.the-variants.{Empty, Call, Plain, Used}
@@ -60,7 +61,7 @@ module _ {book cert w ars : List ℕ} {B : Book Exp} {es : List (Claim Exp)} whe
   left-itself {at} {t} k l = subst (λ u. Means book cert w (Plain at 1 0) (some u) (behind at t)) (as-it-is t) (left-means 1 0 k l)
 
   -- a left reindexed and filled by a filling that stands in the table of uses
-  pub filled-means : {at : ℕ} {t : Pattern} (θ : Fills Exp) (i j : ℕ) → Known book cert w ars B es → Tells book cert w 896 (by θ) → LeftAt cert ars at t
+  pub filled-means : {at : ℕ} {t : Pattern} (θ : Fills Exp) (i j : ℕ) → Known book cert w ars B es → Tells book cert w USED (by θ) → LeftAt cert ars at t
       → Means book cert w (Used at i j) (some (fill (by θ) (reindex one (i, j) t))) (behind at t)
   unfolding Means
   filled-means {at} {t} θ i j k f l = record {
@@ -123,7 +124,7 @@ module _ {cert : List ℕ} {at : ℕ} {c : Read} (t : Takes cert 1 at c) (i j : 
   used-some ne = record { told = go }
     where
       go : (book w ars : List ℕ) (B : Book Exp) (es : List (Claim Exp)) → Known book cert w ars B es → (u : Use Exp Pair) → u .index ≡ (i, j)
-          → Tells book cert w 896 (by (u .fills)) → (m : Mark Exp) → RightAt cert ars at m
+          → Tells book cert w USED (by (u .fills)) → (m : Mark Exp) → RightAt cert ars at m
           → (end : ℕ) × Means book cert w (Used (c .at) i j) (instance-mark one u m) end
       go book w ars B es k u e f none r = absurd (ne (t .told 0 [] (r .lies) .0))
       go book w ars B es k u e f (some v) r = (

@@ -10,6 +10,7 @@ use Rattle.patterns.specs.Certificate.{Mark}
 use Rattle.patterns.specs.First.{Exp, one as edition}
 use Rattle.patterns.specs.Checks.{OnMark}
 use Rattle.patterns.specs.Demand.{same, Met}
+use Rattle.table.specs.Places.{WORDS, EMPTY, OWN, USED, FIRST, SECOND, SIDE, NODES}
 use Rattle.table.specs.Nodes.{side}
 use Rattle.table.specs.Sides.{Room}
 use Rattle.table.specs.Marks.{Built}
@@ -32,7 +33,7 @@ use Rattle.begins.proofs.Frames.{below-then, below-less, kept-below, tells-belo
 
 -- ---- what is meant
 
-instance-below : {book s cert w v : List ℕ} {at i j fills : ℕ} {m : Mark Exp} {end : ℕ} → fills + 64 ≤ 1024 → Below 1024 w v
+instance-below : {book s cert w v : List ℕ} {at i j fills : ℕ} {m : Mark Exp} {end : ℕ} → fills + 64 ≤ FIRST → Below FIRST w v
     → InstanceAt book s cert w at i j fills m end → InstanceAt book s cert v at i j fills m end
 instance-below h b x = record {
   term = x .term;
@@ -43,7 +44,7 @@ instance-below h b x = record {
   ends = x .ends;
 }
 
-pub means-below : (book cert w v : List ℕ) (a : Subject) (m : Mark Exp) (end : ℕ) → Below 1024 w v → Means book cert w a m end → Means book cert v a m end
+pub means-below : (book cert w v : List ℕ) (a : Subject) (m : Mark Exp) (end : ℕ) → Below FIRST w v → Means book cert w a m end → Means book cert v a m end
 unfolding Means
 means-below book cert w v Empty m end b x = x
 means-below book cert w v (Call at) m end b x = instance-below (omega arith) b x
@@ -70,7 +71,7 @@ unfolding Means Stored Few
 sided-empty book cert base w = record {
   told = λ m end x. subst (λ k. Stored base k end w (Done 0 0)) (sym (x .0)) (built-empty base w, sym (x .1));
   few = omega arith;
-  kept = kept-self base 3072 w;
+  kept = kept-self base SIDE w;
 }
 
 stored-instance : {book s cert w after : List ℕ} {base at i j fills : ℕ} {r : Side} → Builds book s cert base at i j fills w after r
@@ -80,15 +81,15 @@ stored-instance {after = after} {base = base} {at = at} {r = r} b m end x =
     (subst (λ k. Stored base k (behind at (x .term)) after r) (sym (x .mark)) (b .told (x .term) (x .filling) (x .lies) (x .filled)))
 
 module _ {book cert w after : List ℕ} {base at : ℕ} {r : Side} where
-  pub sided-call : Builds book book cert base at 1 0 832 w after r → Sided book cert base (Call at) w after r
+  pub sided-call : Builds book book cert base at 1 0 OWN w after r → Sided book cert base (Call at) w after r
   unfolding Means
   sided-call b = record { told = stored-instance b; few = b .few; kept = b .kept }
 
-  pub sided-plain : (i j : ℕ) → Builds book cert cert base at i j 768 w after r → Sided book cert base (Plain at i j) w after r
+  pub sided-plain : (i j : ℕ) → Builds book cert cert base at i j EMPTY w after r → Sided book cert base (Plain at i j) w after r
   unfolding Means
   sided-plain i j b = record { told = stored-instance b; few = b .few; kept = b .kept }
 
-  pub sided-used : (i j : ℕ) → Builds book cert cert base at i j 896 w after r → Sided book cert base (Used at i j) w after r
+  pub sided-used : (i j : ℕ) → Builds book cert cert base at i j USED w after r → Sided book cert base (Used at i j) w after r
   unfolding Means
   sided-used i j b = record { told = stored-instance b; few = b .few; kept = b .kept }
 
@@ -97,7 +98,7 @@ sided-as {book} {cert} {w} {after} {base} {r = r} e s = subst (λ x. Sided book 
 
 -- ---- two sides compared
 
-pub few-done : {r : Side} {n e : ℕ} → Few r → r ≡ Done n e → n ≤ 1024
+pub few-done : {r : Side} {n e : ℕ} → Few r → r ≡ Done n e → n ≤ NODES
 unfolding Few
 few-done f q = rw q at f
 
@@ -109,16 +110,16 @@ stored-full : (base end : ℕ) (m : Mark Exp) (after : List ℕ) {r : Side} → 
 unfolding Stored
 stored-full base end m after s q = rw q at s
 
-module _ {book cert w v : List ℕ} {a b : Subject} {r : Side} (first : Sided book cert 1024 a w v r) where
+module _ {book cert w v : List ℕ} {a b : Subject} {r : Side} (first : Sided book cert FIRST a w v r) where
   pub first-full : r ≡ Full → Compares book cert a b w v TooBig
   unfolding Settles
   first-full q = record {
-    told = λ m e x k f y. λ h. built-large 1024 m v (stored-full 1024 e m v (first .told m e x) q) (h .0);
+    told = λ m e x k f y. λ h. built-large FIRST m v (stored-full FIRST e m v (first .told m e x) q) (h .0);
     below = kept-below (first .kept);
   }
 
-  module _ {u : List ℕ} {s : Side} (second : Sided book cert 4096 b v u s) where
-    both-below : Below 1024 w u
+  module _ {u : List ℕ} {s : Side} (second : Sided book cert SECOND b v u s) where
+    both-below : Below FIRST w u
     both-below = below-then (kept-below (first .kept)) (below-less (omega arith) (kept-below (second .kept)))
 
     again : (k : Mark Exp) (f : ℕ) → Means book cert w b k f → Means book cert v b k f
@@ -127,42 +128,42 @@ module _ {book cert w v : List ℕ} {a b : Subject} {r : Side} (first : Sided bo
     pub second-full : s ≡ Full → Compares book cert a b w u TooBig
     unfolding Settles
     second-full q = record {
-      told = λ m e x k f y. λ h. built-large 4096 k u (stored-full 4096 f k u (second .told k f (again k f y)) q) (h .1);
+      told = λ m e x k f y. λ h. built-large SECOND k u (stored-full SECOND f k u (second .told k f (again k f y)) q) (h .1);
       below = both-below;
     }
 
     module _ {n e m i : ℕ} (p : r ≡ Done n e) (q : s ≡ Done m i) where
-      pub sides-room : 8192 ≤ length w → Room 1024 n u × Room 4096 m u
+      pub sides-room : WORDS ≤ length w → Room FIRST n u × Room SECOND m u
       sides-room h = (
         record { within = omega (arith, both-below .size); few = few-done (first .few) p },
         record { within = omega (arith, both-below .size); few = few-done (second .few) q },
       )
 
-      one : (c : Mark Exp) (end : ℕ) → Means book cert w a c end → Built 1024 c u (Count n) × (e ≡ end)
+      one : (c : Mark Exp) (end : ℕ) → Means book cert w a c end → Built FIRST c u (Count n) × (e ≡ end)
       one c end x =
-          let h = stored-done 1024 end c v (first .told c end x) p in
-          (built-apart 1024 4096 c v u (Count n) (before (omega arith)) (second .kept) (h .0), h .1)
+          let h = stored-done FIRST end c v (first .told c end x) p in
+          (built-apart FIRST SECOND c v u (Count n) (before (omega arith)) (second .kept) (h .0), h .1)
 
-      two : (c : Mark Exp) (end : ℕ) → Means book cert w b c end → Built 4096 c u (Count m)
-      two c end x = stored-done 4096 end c u (second .told c end (again c end x)) q .0
+      two : (c : Mark Exp) (end : ℕ) → Means book cert w b c end → Built SECOND c u (Count m)
+      two c end x = stored-done SECOND end c u (second .told c end (again c end x)) q .0
 
-      settled : (t : Bool) → Says (side u 1024 n ≡ side u 4096 m) t → (c : Mark Exp) (x : ℕ) → Means book cert w a c x → (d : Mark Exp) (y : ℕ)
+      settled : (t : Bool) → Says (side u FIRST n ≡ side u SECOND m) t → (c : Mark Exp) (x : ℕ) → Means book cert w a c x → (d : Mark Exp) (y : ℕ)
           → Means book cert w b d y → Says (Met edition (same c d)) t
       settled t z c x g d y h =
-          sides-settle (arities book) 1024 n 4096 m c d u t (means-formed book cert w a c x g) (means-formed book cert w b d y h) (one c x g .0) (two d y h) z
+          sides-settle (arities book) FIRST n SECOND m c d u t (means-formed book cert w a c x g) (means-formed book cert w b d y h) (one c x g .0) (two d y h) z
 
-      pub compares-equal : (t : Bool) → Says (side u 1024 n ≡ side u 4096 m) t → t ≡ true → Compares book cert a b w u (Equal e)
+      pub compares-equal : (t : Bool) → Says (side u FIRST n ≡ side u SECOND m) t → t ≡ true → Compares book cert a b w u (Equal e)
       unfolding Settles Says
       compares-equal t z o = record {
         told = λ c x g d y h.
-            (built-small 1024 n c u (one c x g .0), built-small 4096 m d u (two d y h), subst (Says _) o (settled t z c x g d y h), one c x g .1);
+            (built-small FIRST n c u (one c x g .0), built-small SECOND m d u (two d y h), subst (Says _) o (settled t z c x g d y h), one c x g .1);
         below = both-below;
       }
 
-      pub compares-unequal : (t : Bool) → Says (side u 1024 n ≡ side u 4096 m) t → t ≡ false → Compares book cert a b w u Unequal
+      pub compares-unequal : (t : Bool) → Says (side u FIRST n ≡ side u SECOND m) t → t ≡ false → Compares book cert a b w u Unequal
       unfolding Settles Says
       compares-unequal t z o = record {
         told = λ c x g d y h.
-            (built-small 1024 n c u (one c x g .0), built-small 4096 m d u (two d y h), subst (Says _) o (settled t z c x g d y h));
+            (built-small FIRST n c u (one c x g .0), built-small SECOND m d u (two d y h), subst (Says _) o (settled t z c x g d y h));
         below = both-below;
       }

@@ -7,6 +7,7 @@ use Rattle.patterns.specs.Certificate.{Mark}
 use Rattle.patterns.specs.First.{Exp}
 use Rattle.patterns.specs.Demand.{present, level}
 use Rattle.patterns.specs.Judge.{Check, check, compare}
+use Rattle.table.specs.Places.{FIRST}
 use Rattle.comparing.specs.declared.Found.{Found}
 use Rattle.comparing.specs.declared.Kind.{Kind}
 use Rattle.comparing.specs.declared.Kind.the-variants.{Unfold, Descent, Closing}
@@ -44,16 +45,16 @@ end-of (Present n) e = 0
 -- a comparison was made
 pub record Equals (book cert : List ℕ) (n p : ℕ) (a b : Subject) (w after : List ℕ) (r : Found) : Type 0 where
   pub told : (m : Mark Exp) (e : ℕ) → Means book cert w a m e → (k : Mark Exp) (f : ℕ) → Means book cert w b k f → Finds (compare n p m k) e r
-  pub below : Below 1024 w after
+  pub below : Below FIRST w after
 
 -- behind a check of a right
 pub record LedEquals (book cert : List ℕ) (l n p right : ℕ) (q : Behind) (a b : Subject) (w after : List ℕ) (r : Found) : Type 0 where
   pub told : (ars : List ℕ) (t : Mark Exp) → RightAt cert ars right t → (m : Mark Exp) (e : ℕ) → Means book cert w a m e
       → (k : Mark Exp) (f : ℕ) → Means book cert w b k f → Finds (lead q l p t ++ compare n p m k) e r
-  pub below : Below 1024 w after
+  pub below : Below FIRST w after
 
 -- what is asked at a part was looked at
 pub record Checks (book cert : List ℕ) (kind : Kind) (part right : ℕ) (q : Behind) (a b : Subject) (w after : List ℕ) (r : Found) : Type 0 where
   pub told : (ars : List ℕ) → Known-arities book ars → (t : Mark Exp) → RightAt cert ars right t → (m : Mark Exp) (e : ℕ) → Means book cert w a m e
       → (k : Mark Exp) (f : ℕ) → Means book cert w b k f → Finds (checks-of (asked-at kind part) part q t m k) (end-of (asked-at kind part) e) r
-  pub below : Below 1024 w after
+  pub below : Below FIRST w after

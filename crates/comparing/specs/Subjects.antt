@@ -11,6 +11,7 @@ use Rattle.patterns.specs.Certificate.{by, Mark, Use, Claim}
 use Rattle.patterns.specs.First.{Exp, Pattern, Pair, one}
 use Rattle.patterns.specs.Checks.{instance-mark, reindex-mark}
 use Rattle.patterns.specs.Demand.{small, same, Met}
+use Rattle.table.specs.Places.{EMPTY, OWN, USED, FIRST, SIDE}
 use Rattle.table.specs.Sides.{Kept}
 use Rattle.comparing.specs.declared.Subject.{Subject}
 use Rattle.comparing.specs.declared.Subject.the-variants.{Empty, Call, Plain, Used}
@@ -35,15 +36,15 @@ pub record InstanceAt (book s cert w : List ℕ) (at i j fills : ℕ) (m : Mark 
 -- the mark that a subject means, and the bit behind its term
 unfoldable pub Means : List ℕ → List ℕ → List ℕ → Subject → Mark Exp → ℕ → Type 0
 Means book cert w Empty m end = (m ≡ none) × (end ≡ 0)
-Means book cert w (Call at) m end = InstanceAt book book cert w at 1 0 832 m end
-Means book cert w (Plain at i j) m end = InstanceAt book cert cert w at i j 768 m end
-Means book cert w (Used at i j) m end = InstanceAt book cert cert w at i j 896 m end
+Means book cert w (Call at) m end = InstanceAt book book cert w at 1 0 OWN m end
+Means book cert w (Plain at i j) m end = InstanceAt book cert cert w at i j EMPTY m end
+Means book cert w (Used at i j) m end = InstanceAt book cert cert w at i j USED m end
 
 -- a side was built
 pub record Sided (book cert : List ℕ) (base : ℕ) (a : Subject) (w after : List ℕ) (r : Side) : Type 0 where
   pub told : (m : Mark Exp) (end : ℕ) → Means book cert w a m end → Stored base m end after r
   pub few : Few r
-  pub kept : Kept base 3072 w after
+  pub kept : Kept base SIDE w after
 
 -- what a comparison settles, where the first side's term ends at `end`
 unfoldable pub Settles : Mark Exp → Mark Exp → ℕ → Compared → Type 0
@@ -54,7 +55,7 @@ Settles m k end TooBig = ¬ (Met one (small m) × Met one (small k))
 -- two sides were compared
 pub record Compares (book cert : List ℕ) (a b : Subject) (w after : List ℕ) (r : Compared) : Type 0 where
   pub told : (m : Mark Exp) (e : ℕ) → Means book cert w a m e → (k : Mark Exp) (f : ℕ) → Means book cert w b k f → Settles m k e r
-  pub below : Below 1024 w after
+  pub below : Below FIRST w after
 
 -- the right that lies at a bit, as a subject; a table of no filling, or a use's, fills it
 pub record PlainRight (cert : List ℕ) (at i j : ℕ) (r : Subject) : Type 0 where
@@ -63,5 +64,5 @@ pub record PlainRight (cert : List ℕ) (at i j : ℕ) (r : Subject) : Type 0 wh
 
 pub record UsedRight (cert : List ℕ) (at i j : ℕ) (r : Subject) : Type 0 where
   pub told : (book w ars : List ℕ) (B : Book Exp) (es : List (Claim Exp)) → Known book cert w ars B es → (u : Use Exp Pair)
-      → u .index ≡ (i, j) → Fills book cert w 896 (by (u .fills)) → (m : Mark Exp) → RightAt cert ars at m
+      → u .index ≡ (i, j) → Fills book cert w USED (by (u .fills)) → (m : Mark Exp) → RightAt cert ars at m
       → (end : ℕ) × Means book cert w r (instance-mark one u m) end

@@ -6,6 +6,7 @@ use instances::field;
 ghost use mathlib.Core.Path.{_≡_};
 ghost use Prim.Native.Nat.{_≤_, _<_};
 ghost use lib.ListN.{length};
+ghost use Rattle.table.specs.Places.{WORDS};
 ghost use Rattle.comparing.specs.Subjects.{PlainRight, UsedRight};
 ghost use Rattle.comparing.specs.Asked.{LedEquals, asked-at, Checks};
 
@@ -91,7 +92,7 @@ fn led_equal(
     a: Subject,
     b: Subject,
 ) -> Found
-    requires { ⌜ 8192 ≤ length (now w) ⌝ }
+    requires { ⌜ WORDS ≤ length (now w) ⌝ }
     ensures { λ r. ⌜ LedEquals (now (book .entry)) (now (certificate .entry)) before number part right behind a b (now (w .entry)) (now (w .exit)) r ⌝ }
 {
     match rights::led(certificate, before, part, right, behind) {
@@ -136,7 +137,7 @@ pub fn check(
     a: Subject,
     b: Subject,
 ) -> Found
-    requires { ⌜ 8192 ≤ length (now w) ⌝ }
+    requires { ⌜ WORDS ≤ length (now w) ⌝ }
     ensures { λ r. ⌜ Checks (now (book .entry)) (now (certificate .entry)) kind part right behind a b (now (w .entry)) (now (w .exit)) r ⌝ }
 {
     match asked_at(kind, part) {

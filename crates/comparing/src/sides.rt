@@ -3,19 +3,25 @@ use crate::Compared;
 use crate::Found;
 use crate::Subject;
 use instances::Side;
+use table::EMPTY;
+use table::FIRST;
+use table::OWN;
+use table::SECOND;
+use table::USED;
 ghost use Prim.Native.Nat.{_+_, _≤_};
 ghost use lib.ListN.{length};
+ghost use Rattle.table.specs.Places.{WORDS, FIRST, SIDE};
 ghost use Rattle.comparing.specs.Subjects.{Sided, Compares};
 ghost use Rattle.comparing.specs.Asked.{Equals};
 
 // One side of a comparison.
 fn one_side(book: &[u8], certificate: &[u8], w: &mut [u64], base: usize, a: Subject) -> Side
-    requires { ⌜ (1024 ≤ base) × (base + 3072 ≤ length (now w)) ⌝ }
+    requires { ⌜ (FIRST ≤ base) × (base + SIDE ≤ length (now w)) ⌝ }
     ensures { λ r. ⌜ Sided (now (book .entry)) (now (certificate .entry)) base a (now (w .entry)) (now (w .exit)) r ⌝ }
 {
     match a {
         Subject::Empty => Side::Done(0, 0),
-        Subject::Call(at) => instances::build(book, book, certificate, w, base, at, 1, 0, 832),
+        Subject::Call(at) => instances::build(book, book, certificate, w, base, at, 1, 0, OWN),
         Subject::Plain(at, i, j) => instances::build(
             book,
             certificate,
@@ -25,7 +31,7 @@ fn one_side(book: &[u8], certificate: &[u8], w: &mut [u64], base: usize, a: Subj
             at,
             i,
             j,
-            768,
+            EMPTY,
         ),
         Subject::Used(at, i, j) => instances::build(
             book,
@@ -36,23 +42,23 @@ fn one_side(book: &[u8], certificate: &[u8], w: &mut [u64], base: usize, a: Subj
             at,
             i,
             j,
-            896,
+            USED,
         ),
     }
 }
 
 // Builds the first side, then the second, and compares them.
 fn compare(book: &[u8], certificate: &[u8], w: &mut [u64], a: Subject, b: Subject) -> Compared
-    requires { ⌜ 8192 ≤ length (now w) ⌝ }
+    requires { ⌜ WORDS ≤ length (now w) ⌝ }
     ensures { λ r. ⌜ Compares (now (book .entry)) (now (certificate .entry)) a b (now (w .entry)) (now (w .exit)) r ⌝ }
 {
-    let Side::Done(n, end) = one_side(book, certificate, w, 1024, a) else {
+    let Side::Done(n, end) = one_side(book, certificate, w, FIRST, a) else {
         return Compared::TooBig;
     };
-    let Side::Done(m, _) = one_side(book, certificate, w, 4096, b) else {
+    let Side::Done(m, _) = one_side(book, certificate, w, SECOND, b) else {
         return Compared::TooBig;
     };
-    if table::same(w, 1024, n, 4096, m) {
+    if table::same(w, FIRST, n, SECOND, m) {
         return Compared::Equal(end);
     }
     Compared::Unequal
@@ -68,7 +74,7 @@ pub fn equal(
     a: Subject,
     b: Subject,
 ) -> Found
-    requires { ⌜ 8192 ≤ length (now w) ⌝ }
+    requires { ⌜ WORDS ≤ length (now w) ⌝ }
     ensures { λ r. ⌜ Equals (now (book .entry)) (now (certificate .entry)) number part a b (now (w .entry)) (now (w .exit)) r ⌝ }
 {
     match compare(book, certificate, w, a, b) {

@@ -41,6 +41,7 @@ use Rattle.begins.proofs.Frames.{below-then, below-less, kept-below, known-belo
 use Rattle.comparing.proofs.Meanings.{call-means, left-means, left-itself, used-means}
 use Rattle.comparing.proofs.Finding.{finds-fault, finds-last, finds-stop, finds-then, finds-ending, finds-given}
 use Rattle.patterns.proofs.Every.{below-listed, map-listed}
+use Rattle.table.specs.Places.{OWN, FIRST}
 use Rattle.begins.proofs.Calling.{head-lies, calls-at}
 
 -- ---- the parts of a descent
@@ -72,7 +73,7 @@ module _ {book cert w v : List ℕ} {left right : ℕ} {base : Instance} {r : Fo
           (a .0, finds-then (first-found D) q (λ z. second .told ars (known .arity) _ (D .right-at) _ _ (a .1) _ _ (b .1)))
 
 descending-below : {book cert w v ars : List ℕ} {B : Book Exp} {es : List (Claim Exp)} {θ : Fills Exp} {left right : ℕ} {l : Claim Exp} {u : Use Exp Pair} {c : Claim Exp} {base : Instance}
-    → Below 1024 w v → Descending book cert w ars B es θ left right l u c base → Descending book cert v ars B es θ left right l u c base
+    → Below FIRST w v → Descending book cert w ars B es θ left right l u c base → Descending book cert v ars B es θ left right l u c base
 descending-below b D = record {
   scene = scene-below (below-less (omega arith) b) (D .scene);
   left-at = D .left-at;
@@ -157,7 +158,7 @@ sole-call (v ∷ []) e = (v, refl)
 sole-call (v ∷ t ∷ vs) e = absurd (omega arith)
 
 pub descent-on : {book cert w v after : List ℕ} {left right begin end : ℕ} {base : Instance} {c : Read} {r : Found} → Takes cert 8 (base .end) c
-    → begin ≡ getD w (c .value) 0 → Lists book cert 832 (c .at) w v end → DescentBy book cert left right base begin end v after r
+    → begin ≡ getD w (c .value) 0 → Lists book cert OWN (c .at) w v end → DescentBy book cert left right base begin end v after r
     → DescentOn book cert left right base w after r
 unfolding width line-checks sole call-counts
 descent-on {book} {cert} {w} {v} {after} {left} {right} {begin} {end} {base} {c} {r} t e f p = record {

@@ -4,8 +4,10 @@ use comparing::Behind;
 use comparing::Found;
 use comparing::Kind;
 use comparing::Subject;
+use table::OWN;
 ghost use Prim.Native.Nat.{_≤_};
 ghost use lib.ListN.{length};
+ghost use Rattle.table.specs.Places.{WORDS};
 ghost use Rattle.descents.specs.Descents.{DescentBase, DescentHead, DescentCall, LevelRight, DescentBy, DescentOn, DescentAt};
 
 // Parts 0 and 1 of a descent: its base, by a use that was read.
@@ -17,7 +19,7 @@ fn descent_base(
     right: usize,
     base: Instance,
 ) -> Found
-    requires { ⌜ 8192 ≤ length (now w) ⌝ }
+    requires { ⌜ WORDS ≤ length (now w) ⌝ }
     ensures { λ r. ⌜ DescentBase (now (book .entry)) (now (certificate .entry)) left right base (now (w .entry)) (now (w .exit)) r ⌝ }
 {
     let theirs = Subject::Used(base.left, base.i, base.j);
@@ -59,7 +61,7 @@ fn descent_head(
     base: Instance,
     head: usize,
 ) -> Found
-    requires { ⌜ 8192 ≤ length (now w) ⌝ }
+    requires { ⌜ WORDS ≤ length (now w) ⌝ }
     ensures { λ r. ⌜ DescentHead (now (book .entry)) (now (certificate .entry)) left right base head (now (w .entry)) (now (w .exit)) r ⌝ }
 {
     match descent_base(book, certificate, w, left, right, base) {
@@ -88,7 +90,7 @@ fn descent_call(
     base: Instance,
     head: usize,
 ) -> Found
-    requires { ⌜ 8192 ≤ length (now w) ⌝ }
+    requires { ⌜ WORDS ≤ length (now w) ⌝ }
     ensures { λ r. ⌜ DescentCall (now (book .entry)) (now (certificate .entry)) left right base head (now (w .entry)) (now (w .exit)) r ⌝ }
 {
     match descent_head(book, certificate, w, left, right, base, head) {
@@ -109,7 +111,7 @@ fn descent_call(
 
 // Part 4 of a descent, which ends at a bit: no sides are compared there.
 fn level_right(book: &[u8], certificate: &[u8], w: &mut [u64], right: usize, at: usize) -> Found
-    requires { ⌜ 8192 ≤ length (now w) ⌝ }
+    requires { ⌜ WORDS ≤ length (now w) ⌝ }
     ensures { λ r. ⌜ LevelRight (now (book .entry)) (now (certificate .entry)) right at (now (w .entry)) (now (w .exit)) r ⌝ }
 {
     match comparing::check(
@@ -139,7 +141,7 @@ fn descent_by(
     rule: usize,
     at: usize,
 ) -> Found
-    requires { ⌜ 8192 ≤ length (now w) ⌝ }
+    requires { ⌜ WORDS ≤ length (now w) ⌝ }
     ensures { λ r. ⌜ DescentBy (now (book .entry)) (now (certificate .entry)) left right base rule at (now (w .entry)) (now (w .exit)) r ⌝ }
 {
     let calls = instances::field(book, 4, rule);
@@ -158,13 +160,13 @@ fn descent_on(
     right: usize,
     base: Instance,
 ) -> Found
-    requires { ⌜ 8192 ≤ length (now w) ⌝ }
+    requires { ⌜ WORDS ≤ length (now w) ⌝ }
     ensures { λ r. ⌜ DescentOn (now (book .entry)) (now (certificate .entry)) left right base (now (w .entry)) (now (w .exit)) r ⌝ }
 {
     let rule = instances::field(certificate, 8, base.end);
     let k = rule.value as usize;
     let begin = begins::noted(w, k);
-    let end = instances::fillings::list_filling(book, certificate, w, 832, rule.at);
+    let end = instances::fillings::list_filling(book, certificate, w, OWN, rule.at);
     descent_by(book, certificate, w, left, right, base, begin, end)
 }
 
@@ -177,7 +179,7 @@ pub fn descent(
     right: usize,
     at: usize,
 ) -> Found
-    requires { ⌜ 8192 ≤ length (now w) ⌝ }
+    requires { ⌜ WORDS ≤ length (now w) ⌝ }
     ensures { λ r. ⌜ DescentAt (now (book .entry)) (now (certificate .entry)) left right at (now (w .entry)) (now (w .exit)) r ⌝ }
 {
     let base = begins::read_use(book, certificate, w, at);

@@ -11,6 +11,7 @@ use Rattle.patterns.specs.Term.{Filling, fill, Node, nvar, nfun, npow, nodes}
 use Rattle.patterns.specs.Edition.{reindex}
 use Rattle.patterns.specs.First.{Exp, Pattern, shift, one}
 use Rattle.patterns.specs.Push.{retag, expand}
+use Rattle.table.specs.Places.{SIDE}
 use Rattle.table.specs.Nodes.{stack, load}
 use Rattle.table.specs.Sides.{Room, Kept, Holds, Took}
 use Rattle.table.specs.Marks.{Built}
@@ -59,7 +60,7 @@ module _ (book cert w : List ℕ) (fills i j : ℕ) where
     step-listed z t = took-as n (ap (λ k. walked book cert (k - 1) .met) e ∙ term-only h (λ q. z (e ∙ q))) t
 
 -- the table of a filling that lies below a side is not changed by what is pushed there
-entry-kept : (w v : List ℕ) (fills base x : ℕ) → fills + 64 ≤ base → Kept base 3072 w v → entry v fills x ≡ entry w fills x
+entry-kept : (w v : List ℕ) (fills base x : ℕ) → fills + 64 ≤ base → Kept base SIDE w v → entry v fills x ≡ entry w fills x
 unfolding entry
 entry-kept w v fills base x h k = go (decLt x 64)
   where
@@ -67,7 +68,7 @@ entry-kept w v fills base x h k = go (decLt x 64)
     go (yes l) = rw (lt-ltb x 64 l) (k .low (fills + x) (omega arith))
     go (no l) = rw (le-ltb x 64 (omega arith))
 
-filled-kept : (book cert w v : List ℕ) (fills base i j : ℕ) (h : Header) → fills + 64 ≤ base → Kept base 3072 w v
+filled-kept : (book cert w v : List ℕ) (fills base i j : ℕ) (h : Header) → fills + 64 ≤ base → Kept base SIDE w v
     → flatMap (filled book cert v fills i j) (single h) ≡ flatMap (filled book cert w fills i j) (single h)
 unfolding single flatMap filled
 filled-kept book cert w v fills base i j (Variable x c) h k = rw (entry-kept w v fills base x h k)
@@ -75,7 +76,7 @@ filled-kept book cert w v fills base i j (Symbol f n c) h k = refl
 filled-kept book cert w v fills base i j (Power s a b c) h k = refl
 filled-kept book cert w v fills base i j Missing h k = refl
 
-pub step-filled : {base : ℕ} {w v : List ℕ} {r : Pushed} (book cert w₀ : List ℕ) (fills i j n : ℕ) (h : Header) → fills + 64 ≤ base → Kept base 3072 w₀ w
+pub step-filled : {base : ℕ} {w v : List ℕ} {r : Pushed} (book cert w₀ : List ℕ) (fills i j n : ℕ) (h : Header) → fills + 64 ≤ base → Kept base SIDE w₀ w
     → Took base n (flatMap (filled book cert w fills i j) (single h)) w v r
     → Took base n (flatMap (filled book cert w₀ fills i j) (single h)) w v r
 step-filled {base} {w} {v} {r} book cert w₀ fills i j n h below k t = took-as n (filled-kept book cert w₀ w fills base i j h below k) t
@@ -136,7 +137,7 @@ module _ (book cert w : List ℕ) (fills i j : ℕ) where
 
     -- the next node fits
     pub building-fits : (n left : ℕ) (p : Place) → Pushing (filled book cert w fills i j) book s at base 0 w v n left p
-        → (base + 3072 ≤ length w) × (fills + 64 ≤ base) → i < 65536 → j < 65536
+        → (base + SIDE ≤ length w) × (fills + 64 ≤ base) → i < 65536 → j < 65536
         → Room base n v × ((load (stack v base n) ≤ 2 ^ 60) × (fills + 64 ≤ length v))
     building-fits n left p g before small-i small-j =
         let room = pushing-room _ book s at base 0 w v n left p g (record { within = before .0; few = omega arith }) in

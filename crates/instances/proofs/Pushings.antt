@@ -16,6 +16,7 @@ use Rattle.table.specs.declared.Pushed.the-variants.{Count, NoRoom}
 use Rattle.table.proofs.Loads.{load-cons, load-append}
 use Rattle.table.proofs.Sides.{took-none, took-then, took-stop, took-room, took-load}
 use Rattle.bits.specs.declared.Cursor.{Cursor}
+use Rattle.table.specs.Places.{NODES}
 use Rattle.instances.specs.Headers.{headerAt}
 use Rattle.instances.specs.Walks.{single, onward, Next, start, Walk, walk, walked}
 use Rattle.instances.specs.Filled.{itself}
@@ -58,7 +59,7 @@ module _ (base n i j : ℕ) (w v : List ℕ) (r : Pushed) (h : Header) where
   unfolding retag single
   node-power s a b c m e d t = rw e (took-as n (ap (λ k. k ∷ []) (d .node)) t)
 
-pub node-missing : (base n i j : ℕ) (w : List ℕ) (h : Header) → n ≤ 1024 → h ≡ Missing → Took base n (retag (shift (i, j)) (single h)) w w (Count n)
+pub node-missing : (base n i j : ℕ) (w : List ℕ) (h : Header) → n ≤ NODES → h ≡ Missing → Took base n (retag (shift (i, j)) (single h)) w w (Count n)
 unfolding retag single
 node-missing base n i j w h few e = rw e (took-none base n w few)
 
@@ -86,7 +87,7 @@ abbrev pub given : (Node Exp → List (Node Exp)) → List ℕ → List ℕ → 
 given f book s at = flatMap f (walked book s at .met)
 
 module _ (f : Node Exp → List (Node Exp)) (book s : List ℕ) (at base count : ℕ) (w₀ : List ℕ) where
-  pub pushing-start : count ≤ 1024 → Pushing f book s at base count w₀ w₀ count 256 (start at)
+  pub pushing-start : count ≤ NODES → Pushing f book s at base count w₀ w₀ count 256 (start at)
   unfolding flatMap
   pushing-start few = record { met = []; going = going-start book s at; took = took-none base count w₀ few }
 

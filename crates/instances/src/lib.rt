@@ -17,6 +17,7 @@ ghost use Rattle.patterns.specs.Push.{retag};
 ghost use Rattle.table.specs.Answer.{Says};
 ghost use Rattle.table.specs.Nodes.{stack, load};
 ghost use Rattle.table.specs.Sides.{Room, Took};
+ghost use Rattle.table.specs.Places.{SIDE};
 ghost use Rattle.instances.specs.Taking.{Takes};
 ghost use Rattle.instances.specs.Instances.{Skips, Levels, Builds};
 ghost use Rattle.instances.specs.Walks.{single, Next, walked, Calm};
@@ -224,7 +225,7 @@ pub fn build(
     j: u16,
     fills: usize,
 ) -> Side
-    requires { ⌜ (base + 3072 ≤ length (now w)) × (fills + 64 ≤ base) ⌝ }
+    requires { ⌜ (base + SIDE ≤ length (now w)) × (fills + 64 ≤ base) ⌝ }
     ensures { λ r. ⌜ Builds (now (book .entry)) (now (s .entry)) (now (certificate .entry)) base at i j fills (now (w .entry)) (now (w .exit)) r ⌝ }
 {
     let mut n: usize = 0;

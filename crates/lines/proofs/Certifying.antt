@@ -13,6 +13,7 @@ use Rattle.patterns.specs.Certificate.{Claim, Line, Closing}
 use Rattle.patterns.specs.Judge.{line-checks, checks-from, checks, first-unmet, refuse, verdict, judge}
 use Rattle.grammar.specs.Listing.{line-fields, closing-fields, certificate-fields}
 use Rattle.grammar.specs.Limits.{LinesFit, ClosingFits, call-counts}
+use Rattle.table.specs.Places.{LEFTS, RIGHTS, EMPTY}
 use Rattle.layout.specs.Carried.{carried}
 use Rattle.verdicts.specs.Verdicts.{paper}
 use Rattle.verdicts.proofs.Parted.{parted-line}
@@ -84,7 +85,7 @@ module _ {book cert w v : List ℕ} {at k n : ℕ} {f : Found} (ne : n ≢ 0) (s
 
 -- ---- the whole
 
-pub prepares : {book w v after : List ℕ} → Forgets 768 w v → Indexes book v after → Prepares book w after
+pub prepares : {book w v after : List ℕ} → Forgets EMPTY w v → Indexes book v after → Prepares book w after
 prepares {book} {w} {v} {after} f i = record {
   told = λ cert b arity fits lies. record {
     arity = arity;
@@ -92,12 +93,12 @@ prepares {book} {w} {v} {after} f i = record {
     few-claims = omega arith;
     rule = λ k r e. i .told b arity fits lies k r e;
     claim = λ k c e. no-claim k c e;
-    bare = λ x. entry-above 768 (omega arith) (i .kept) x ∙ f .none x;
+    bare = λ x. entry-above EMPTY (omega arith) (i .kept) x ∙ f .none x;
   };
   size = i .kept .size ∙ f .kept .size;
 }
   where
-    no-claim : {cert ars : List ℕ} (k : ℕ) (c : Claim Exp) → _≡_ {A = Option (Claim Exp)} none (some c) → ClaimAt cert ars (getD after (256 + k) 0) (getD after (512 + k) 0) c
+    no-claim : {cert ars : List ℕ} (k : ℕ) (c : Claim Exp) → _≡_ {A = Option (Claim Exp)} none (some c) → ClaimAt cert ars (getD after (LEFTS + k) 0) (getD after (RIGHTS + k) 0) c
     no-claim k c e = let z : _≡_ {A = ℕ} 0 1 = cc in absurd (omega arith)
 
 pub judges-lines : {book cert w v after : List ℕ} {c : Read} {r : Ruling} → Prepares book w v → Takes cert 8 0 c → LinesAt book cert (c .at) 0 (c .value) v after r

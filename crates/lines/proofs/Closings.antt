@@ -39,18 +39,19 @@ use Rattle.begins.proofs.Frames.{below-less, kept-below, known-below, tells-bel
 use Rattle.comparing.proofs.Meanings.{filled-means}
 use Rattle.comparing.proofs.Finding.{fault-unmet, at-fault, at-good, finds-stop, finds-then, finds-given}
 use Rattle.patterns.proofs.Every.{below-listed}
+use Rattle.table.specs.Places.{LEFTS, RIGHTS, USED}
 use Rattle.lines.proofs.Placing.{fault-carried, closed-fault, closed-none}
 
 -- ---- the closing
 
 -- the claim that the closing names
-closed-claim : {book cert w ars : List ℕ} {B : Book Exp} {es : List (Claim Exp)} {line left right : ℕ} → left ≡ getD w (256 + line) 0
-    → right ≡ getD w (512 + line) 0 → Known book cert w ars B es → (n : ℕ) → n ≡ line → (l : Claim Exp) → getElem? es n ≡ some l
+closed-claim : {book cert w ars : List ℕ} {B : Book Exp} {es : List (Claim Exp)} {line left right : ℕ} → left ≡ getD w (LEFTS + line) 0
+    → right ≡ getD w (RIGHTS + line) 0 → Known book cert w ars B es → (n : ℕ) → n ≡ line → (l : Claim Exp) → getElem? es n ≡ some l
     → ClaimAt cert ars left right l
 closed-claim {cert = cert} {w = w} {ars = ars} {left = left} {right = right} el er known n e l found =
-    let a : getD w (256 + n) 0 ≡ left = ap (λ j. getD w (256 + j) 0) e ∙ sym el in
-    let b : getD w (512 + n) 0 ≡ right = ap (λ j. getD w (512 + j) 0) e ∙ sym er in
-    subst (λ j. ClaimAt cert ars j right l) a (subst (λ j. ClaimAt cert ars (getD w (256 + n) 0) j l) b (known .claim n l found))
+    let a : getD w (LEFTS + n) 0 ≡ left = ap (λ j. getD w (LEFTS + j) 0) e ∙ sym el in
+    let b : getD w (RIGHTS + n) 0 ≡ right = ap (λ j. getD w (RIGHTS + j) 0) e ∙ sym er in
+    subst (λ j. ClaimAt cert ars j right l) a (subst (λ j. ClaimAt cert ars (getD w (LEFTS + n) 0) j l) b (known .claim n l found))
 
 module _ {book cert w v : List ℕ} {left right : ℕ} {r : Found} (first : Checks book cert AtClosing 0 right Nothing Empty Empty w v r) where
   there-found : {ars : List ℕ} {B : Book Exp} {es : List (Claim Exp)} → Known book cert w ars B es → {l : Claim Exp} → ClaimAt cert ars left right l
@@ -58,7 +59,7 @@ module _ {book cert w v : List ℕ} {left right : ℕ} {r : Found} (first : Chec
   unfolding asked-at checks-of end-of Means
   there-found {ars} known here = first .told ars (known .arity) _ (here .right-at) none 0 (refl, refl) none 0 (refl, refl)
 
-  pub closing-empty : {line k α n p : ℕ} → left ≡ getD w (256 + line) 0 → right ≡ getD w (512 + line) 0 → r ≡ Fault n p
+  pub closing-empty : {line k α n p : ℕ} → left ≡ getD w (LEFTS + line) 0 → right ≡ getD w (RIGHTS + line) 0 → r ≡ Fault n p
       → ClosingFound book cert line k α w v (Fault n p)
   unfolding closing-checks
   closing-empty el er q = record {
@@ -70,7 +71,7 @@ module _ {book cert w v : List ℕ} {left right : ℕ} {r : Found} (first : Chec
 
   module _ (k α : ℕ) {x : ℕ} {from-right : Subject} {after : List ℕ} {s : Found} (good : r ≡ Good x) (plain : PlainRight cert right 1 α from-right) (second : Checks book cert AtClosing 1 right Nothing from-right (Used left 1 (α + k)) v after s) where
     loop-found : {ars : List ℕ} {B : Book Exp} {es : List (Claim Exp)} → Known book cert w ars B es → (d : Closing Exp Pace) → d .pace ≡ pace-of k α
-        → Tells book cert w 896 (by (d .fills)) → (l : Claim Exp) → ClaimAt cert ars left right l → (m : Mark Exp) → l .right ≡ m
+        → Tells book cert w USED (by (d .fills)) → (l : Claim Exp) → ClaimAt cert ars left right l → (m : Mark Exp) → l .right ≡ m
         → (end : ℕ) × Finds (loop-checks one l d m) end s
     unfolding loop-checks from to asked-at checks-of end-of Met
     loop-found {ars} {B} {es} known d p filled l here none q =
@@ -85,7 +86,7 @@ module _ {book cert w v : List ℕ} {left right : ℕ} {r : Found} (first : Chec
               (second .told ars (known .arity) _ right-at _ _ (o .1) _ _ t),
         )
 
-    pub closing-loop : {line : ℕ} → left ≡ getD w (256 + line) 0 → right ≡ getD w (512 + line) 0 → ClosingFound book cert line k α w after s
+    pub closing-loop : {line : ℕ} → left ≡ getD w (LEFTS + line) 0 → right ≡ getD w (RIGHTS + line) 0 → ClosingFound book cert line k α w after s
     unfolding closing-checks
     closing-loop el er = record {
       told = λ ars B es known d e p filled small.
@@ -116,7 +117,7 @@ module _ {book cert w v : List ℕ} {line k α : ℕ} {f : Found} (found : Closi
   }
 
 pub closing-at : {book cert w v after : List ℕ} {at end : ℕ} {c d e : Read} {r : Ruling} → Takes cert 8 at c → Takes cert 12 (c .at) d → Takes cert 12 (d .at) e
-    → Lists book cert 896 (e .at) w v end → ClosingBy book cert (c .value) (d .value) (e .value) v after r → ClosingAt book cert at w after r
+    → Lists book cert USED (e .at) w v end → ClosingBy book cert (c .value) (d .value) (e .value) v after r → ClosingAt book cert at w after r
 unfolding closing-fields
 closing-at {book} {cert} {w} {v} {after} {at} {end} {c} {d} {e} tc td te f p = record {
   told = λ ars B es known k fits lies.

@@ -4,6 +4,10 @@ use comparing::Found;
 use comparing::Kind;
 use comparing::Subject;
 use layout::Place;
+use table::EMPTY;
+use table::LEFTS;
+use table::RIGHTS;
+use table::USED;
 use verdicts::Acceptance;
 use verdicts::Verdict;
 ghost use mathlib.Core.Path.{_≡_};
@@ -13,15 +17,16 @@ ghost use Rattle.patterns.specs.Judge.{accept, refuse};
 ghost use Rattle.layout.specs.Carried.{carried};
 ghost use Rattle.layout.specs.Answers.{w-of};
 ghost use Rattle.verdicts.specs.Verdicts.{paper};
+ghost use Rattle.table.specs.Places.{WORDS, ROWS};
 ghost use Rattle.lines.specs.Certificates.{pace-of, NotesLine, KindAt, LineAt, ClosingFound, ClosingBy, ClosingAt, LinesAt, Prepares, JudgesLines};
 
 // Where both sides of line k lie, noted.
 fn note_line(w: &mut [u64], k: usize, left: usize, right: usize)
-    requires { ⌜ (8192 ≤ length (now w)) × (k < 256) ⌝ }
+    requires { ⌜ (WORDS ≤ length (now w)) × (k < ROWS) ⌝ }
     ensures { λ _. ⌜ NotesLine k left right (now (w .entry)) (now (w .exit)) ⌝ }
 {
-    w[256 + k] = left as u64;
-    w[512 + k] = right as u64;
+    w[LEFTS + k] = left as u64;
+    w[RIGHTS + k] = right as u64;
 }
 
 // What stands behind a line's claim: an unfold, or a descent.
@@ -34,7 +39,7 @@ fn behind_claim(
     right: usize,
     at: usize,
 ) -> Found
-    requires { ⌜ 8192 ≤ length (now w) ⌝ }
+    requires { ⌜ WORDS ≤ length (now w) ⌝ }
     ensures { λ r. ⌜ KindAt (now (book .entry)) (now (certificate .entry)) tag left right at (now (w .entry)) (now (w .exit)) r ⌝ }
 {
     match tag {
@@ -45,7 +50,7 @@ fn behind_claim(
 
 // The line k at a bit: its claim is noted, and its checks are made.
 fn line(book: &[u8], certificate: &[u8], w: &mut [u64], at: usize, k: usize) -> Found
-    requires { ⌜ (8192 ≤ length (now w)) × (k < 256) ⌝ }
+    requires { ⌜ (WORDS ≤ length (now w)) × (k < ROWS) ⌝ }
     ensures { λ r. ⌜ LineAt (now (book .entry)) (now (certificate .entry)) at k (now (w .entry)) (now (w .exit)) r ⌝ }
 {
     let tag = instances::field(certificate, 1, at);
@@ -65,11 +70,11 @@ fn closing_parts(
     k: u16,
     alpha: u16,
 ) -> Found
-    requires { ⌜ (8192 ≤ length (now w)) × (line < 256) × (k < 4096) × (alpha < 4096) ⌝ }
+    requires { ⌜ (WORDS ≤ length (now w)) × (line < ROWS) × (k < 4096) × (alpha < 4096) ⌝ }
     ensures { λ r. ⌜ ClosingFound (now (book .entry)) (now (certificate .entry)) line k alpha (now (w .entry)) (now (w .exit)) r ⌝ }
 {
-    let left = begins::noted(w, 256 + line);
-    let right = begins::noted(w, 512 + line);
+    let left = begins::noted(w, LEFTS + line);
+    let right = begins::noted(w, RIGHTS + line);
     let from = comparing::plain_right(certificate, right, 1, alpha);
     let to = Subject::Used(left, 1, alpha + k);
     match comparing::check(
@@ -107,7 +112,7 @@ fn closing_by(
     k: u16,
     alpha: u16,
 ) -> Verdict
-    requires { ⌜ (8192 ≤ length (now w)) × (line < 256) × (k < 4096) × (alpha < 4096) ⌝ }
+    requires { ⌜ (WORDS ≤ length (now w)) × (line < ROWS) × (k < 4096) × (alpha < 4096) ⌝ }
     ensures { λ r. ⌜ ClosingBy (now (book .entry)) (now (certificate .entry)) line k alpha (now (w .entry)) (now (w .exit)) r ⌝ }
 {
     match closing_parts(book, certificate, w, line, k, alpha) {
@@ -136,20 +141,20 @@ fn accepted(line: usize, k: u16, alpha: u16) -> Verdict
 
 // The closing at a bit.
 fn closing(book: &[u8], certificate: &[u8], w: &mut [u64], at: usize) -> Verdict
-    requires { ⌜ 8192 ≤ length (now w) ⌝ }
+    requires { ⌜ WORDS ≤ length (now w) ⌝ }
     ensures { λ r. ⌜ ClosingAt (now (book .entry)) (now (certificate .entry)) at (now (w .entry)) (now (w .exit)) r ⌝ }
 {
     let line = instances::field(certificate, 8, at);
     let n = line.value as usize;
     let k = instances::field(certificate, 12, line.at);
     let alpha = instances::field(certificate, 12, k.at);
-    instances::fillings::list_filling(book, certificate, w, 896, alpha.at);
+    instances::fillings::list_filling(book, certificate, w, USED, alpha.at);
     closing_by(book, certificate, w, n, k.value, alpha.value)
 }
 
 // The n lines from number k on, which lie at a bit, and the closing behind them.
 fn lines(book: &[u8], certificate: &[u8], w: &mut [u64], at: usize, k: usize, n: usize) -> Verdict
-    requires { ⌜ (8192 ≤ length (now w)) × (k + n ≤ 255) ⌝ }
+    requires { ⌜ (WORDS ≤ length (now w)) × (k + n ≤ 255) ⌝ }
     ensures { λ r. ⌜ LinesAt (now (book .entry)) (now (certificate .entry)) at k n (now (w .entry)) (now (w .exit)) r ⌝ }
 {
     let mut next = at;
@@ -172,16 +177,16 @@ fn lines(book: &[u8], certificate: &[u8], w: &mut [u64], at: usize, k: usize, n:
 
 // The table made ready: no filling in the first filling table, and the begins of the rules.
 fn prepare(book: &[u8], w: &mut [u64])
-    requires { ⌜ 8192 ≤ length (now w) ⌝ }
+    requires { ⌜ WORDS ≤ length (now w) ⌝ }
     ensures { λ _. ⌜ Prepares (now (book .entry)) (now (w .entry)) (now (w .exit)) ⌝ }
 {
-    instances::fillings::forget(w, 768);
+    instances::fillings::forget(w, EMPTY);
     begins::index_rules(book, w);
 }
 
 // The verdict on a good certificate beside a good book.
 pub fn judge_lines(book: &[u8], certificate: &[u8], w: &mut [u64]) -> Verdict
-    requires { ⌜ 8192 ≤ length (now w) ⌝ }
+    requires { ⌜ WORDS ≤ length (now w) ⌝ }
     ensures { λ r. ⌜ JudgesLines (now (book .entry)) (now (certificate .entry)) (now (w .entry)) (now (w .exit)) r ⌝ }
 {
     prepare(book, w);

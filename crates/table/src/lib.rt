@@ -8,6 +8,29 @@ ghost use Rattle.table.specs.Nodes.{nodeOf, nodeAt, withNode, stack, sid
 ghost use Rattle.table.specs.Sides.{told, Reindexed, Room, Became, Took};
 ghost use Rattle.table.specs.Answer.{Says};
 
+// The places of the table: where each rule begins, where each line's left begins, and where its right does; the words of a filling that
+// stays empty, of the line's own filling, of a use's; and the two sides of a comparison.
+pub const RULES: usize = 0;
+
+pub const LEFTS: usize = 256;
+
+pub const RIGHTS: usize = 512;
+
+pub const EMPTY: usize = 768;
+
+pub const OWN: usize = 832;
+
+pub const USED: usize = 896;
+
+pub const FIRST: usize = 1024;
+
+pub const SECOND: usize = 4096;
+
+// How many words the table has, and how many nodes a side.
+pub const WORDS: usize = 8192;
+
+pub const NODES: usize = 1024;
+
 // A node to be pushed: a variable, a symbol with arguments, or a power of a symbol with its numbers a and b.
 pub enum Item {
     Variable(u16),
@@ -50,7 +73,7 @@ fn store(w: &mut [u64], base: usize, n: usize, code: u64, a: u64, b: u64) -> Pus
     requires { ⌜ Room base n (now w) ⌝ }
     ensures { λ r. ⌜ Became base (nodeOf code a b ∷ stack (now (w .entry)) base n) (now (w .entry)) (now (w .exit)) r ⌝ }
 {
-    if n == 1024 {
+    if n == NODES {
         return Pushed::NoRoom;
     }
     write_node(w, base + 3 * n, code, a, b);

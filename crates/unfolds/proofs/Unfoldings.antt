@@ -17,6 +17,7 @@ use Rattle.patterns.specs.Certificate.{Fills, by, Mark, Claim, Use, Stop, fact,
 use Rattle.patterns.specs.Judge.{Check, compare, parts, stops, line-checks}
 use Rattle.grammar.specs.Listing.{Fields, if-any, term-fields, use-fields, filling-fields, stop-fields, stop-number, kind-fields}
 use Rattle.grammar.specs.Limits.{UseFits, LastFits, StopFits, KindFits, call-counts}
+use Rattle.table.specs.Places.{OWN}
 use Rattle.instances.specs.declared.Read.{Read}
 use Rattle.comparing.specs.declared.Found.{Found}
 use Rattle.comparing.specs.declared.Found.the-variants.{Fault, Good}
@@ -189,7 +190,7 @@ module _ {book cert w v : List ℕ} {left right : ℕ} (k : ℕ) {at : ℕ} {c :
 -- ---- an unfold behind its claim
 
 pub unfold-at : {book cert w v after : List ℕ} {left right at uses : ℕ} {c d : Read} {r : Found} → Takes cert 8 at c → Takes cert 4 (c .at) d
-    → Lists book cert 832 (d .at) w v uses → UnfoldsBy book cert left right (c .value) (d .value) uses v after r → UnfoldAt book cert left right at w after r
+    → Lists book cert OWN (d .at) w v uses → UnfoldsBy book cert left right (c .value) (d .value) uses v after r → UnfoldAt book cert left right at w after r
 unfolding kind-fields KindFits call-counts width
 unfold-at {book} {cert} {w} {v} {after} {left} {right} {at} {uses} {c} {d} {r} tc td f p = record {
   told = λ ars B es known l L R k θ s fits lies.

@@ -4,8 +4,10 @@ use comparing::Behind;
 use comparing::Found;
 use comparing::Kind;
 use comparing::Subject;
+use table::OWN;
 ghost use Prim.Native.Nat.{_+_, _≤_, _<_};
 ghost use lib.ListN.{length};
+ghost use Rattle.table.specs.Places.{WORDS, ROWS};
 ghost use Rattle.unfolds.specs.Unfoldings.{BehindStop, EndsAt, StopsBy, PartBy, EndsBy, EndsUsed, Ends, Parts, Stops, UnfoldsBy, UnfoldAt};
 
 // What stands behind the call where an unfold stops, the j-th of `count`.
@@ -37,7 +39,7 @@ fn stop_by(
     theirs: Subject,
     at: usize,
 ) -> Found
-    requires { ⌜ 8192 ≤ length (now w) ⌝ }
+    requires { ⌜ WORDS ≤ length (now w) ⌝ }
     ensures { λ r. ⌜ StopsBy (now (book .entry)) (now (certificate .entry)) right theirs at (now (w .entry)) (now (w .exit)) r ⌝ }
 {
     let own = comparing::plain_right(certificate, right, 1, 0);
@@ -65,7 +67,7 @@ fn part_by(
     call: usize,
     used: Instance,
 ) -> Found
-    requires { ⌜ 8192 ≤ length (now w) ⌝ }
+    requires { ⌜ WORDS ≤ length (now w) ⌝ }
     ensures { λ r. ⌜ PartBy (now (book .entry)) (now (certificate .entry)) j behind call used (now (w .entry)) (now (w .exit)) r ⌝ }
 {
     let theirs = Subject::Used(used.left, used.i, used.j);
@@ -93,7 +95,7 @@ fn last_by(
     call: usize,
     used: Instance,
 ) -> Found
-    requires { ⌜ 8192 ≤ length (now w) ⌝ }
+    requires { ⌜ WORDS ≤ length (now w) ⌝ }
     ensures { λ r. ⌜ EndsBy (now (book .entry)) (now (certificate .entry)) right j count call used (now (w .entry)) (now (w .exit)) r ⌝ }
 {
     let theirs = comparing::used_right(certificate, used.right, used.i, used.j);
@@ -116,7 +118,7 @@ fn last_used(
     call: usize,
     at: usize,
 ) -> Found
-    requires { ⌜ 8192 ≤ length (now w) ⌝ }
+    requires { ⌜ WORDS ≤ length (now w) ⌝ }
     ensures { λ r. ⌜ EndsUsed (now (book .entry)) (now (certificate .entry)) right j count call at (now (w .entry)) (now (w .exit)) r ⌝ }
 {
     let used = begins::read_use(book, certificate, w, at);
@@ -134,7 +136,7 @@ fn last(
     call: usize,
     at: usize,
 ) -> Found
-    requires { ⌜ 8192 ≤ length (now w) ⌝ }
+    requires { ⌜ WORDS ≤ length (now w) ⌝ }
     ensures { λ r. ⌜ Ends (now (book .entry)) (now (certificate .entry)) right j count call at (now (w .entry)) (now (w .exit)) r ⌝ }
 {
     let any = instances::field(certificate, 1, at);
@@ -157,7 +159,7 @@ fn parts(
     call: usize,
     at: usize,
 ) -> Found
-    requires { ⌜ (8192 ≤ length (now w)) × (j + before ≤ 16) ⌝ }
+    requires { ⌜ (WORDS ≤ length (now w)) × (j + before ≤ 16) ⌝ }
     ensures { λ r. ⌜ Parts (now (book .entry)) (now (certificate .entry)) right j count before call at (now (w .entry)) (now (w .exit)) r ⌝ }
 {
     if before == 0 {
@@ -192,7 +194,7 @@ fn stop(
     call: usize,
     at: usize,
 ) -> Found
-    requires { ⌜ (8192 ≤ length (now w)) × (i ≤ 15) ⌝ }
+    requires { ⌜ (WORDS ≤ length (now w)) × (i ≤ 15) ⌝ }
     ensures { λ r. ⌜ Stops (now (book .entry)) (now (certificate .entry)) right i count call at (now (w .entry)) (now (w .exit)) r ⌝ }
 {
     if i == 0 {
@@ -212,7 +214,7 @@ fn unfold_by(
     i: usize,
     at: usize,
 ) -> Found
-    requires { ⌜ (8192 ≤ length (now w)) × (k < 256) × (i ≤ 15) ⌝ }
+    requires { ⌜ (WORDS ≤ length (now w)) × (k < ROWS) × (i ≤ 15) ⌝ }
     ensures { λ r. ⌜ UnfoldsBy (now (book .entry)) (now (certificate .entry)) left right k i at (now (w .entry)) (now (w .exit)) r ⌝ }
 {
     let calls = instances::field(book, 4, begins::noted(w, k));
@@ -243,13 +245,13 @@ pub fn unfold(
     right: usize,
     at: usize,
 ) -> Found
-    requires { ⌜ 8192 ≤ length (now w) ⌝ }
+    requires { ⌜ WORDS ≤ length (now w) ⌝ }
     ensures { λ r. ⌜ UnfoldAt (now (book .entry)) (now (certificate .entry)) left right at (now (w .entry)) (now (w .exit)) r ⌝ }
 {
     let rule = instances::field(certificate, 8, at);
     let k = rule.value as usize;
     let stop = instances::field(certificate, 4, rule.at);
     let i = stop.value as usize;
-    let uses = instances::fillings::list_filling(book, certificate, w, 832, stop.at);
+    let uses = instances::fillings::list_filling(book, certificate, w, OWN, stop.at);
     unfold_by(book, certificate, w, left, right, k, i, uses)
 }
