@@ -1,5 +1,5 @@
 -- Where the head and the calls of a rule lie.
-use Prim.Native.Nat.{ℕ, _<_}
+use Prim.Native.Nat.{ℕ}
 use mathlib.Core.Path.{_≡_, sym, subst}
 use mathlib.Core.List.{List, _++_, flatMap}
 use native.Mathlib.Omega.{arith}

@@ -4,7 +4,7 @@ mod sides;
 
 use instances::field;
 ghost use mathlib.Core.Path.{_≡_};
-ghost use Prim.Native.Nat.{_≤_, _<_};
+ghost use Prim.Native.Nat.{_≤_};
 ghost use lib.ListN.{length};
 ghost use Rattle.table.specs.Places.{WORDS};
 ghost use Rattle.comparing.specs.Subjects.{PlainRight, UsedRight};
@@ -15,8 +15,8 @@ ghost use Rattle.comparing.specs.Asked.{LedEquals, asked-at, Checks};
 pub enum Subject {
     Empty,
     Call(usize),
-    Plain(usize, u16, u16),
-    Used(usize, u16, u16),
+    Plain { at: usize, i: u16, j: u16 },
+    Used { at: usize, i: u16, j: u16 },
 }
 
 // What a comparison comes to: equal, with the bit behind the first side's term; not equal; or a side has more than 1,024 nodes.
@@ -28,7 +28,7 @@ pub enum Compared {
 
 // What some checks come to: the number and the part of the first that is not met; or all are met, and a bit where the next begin.
 pub enum Found {
-    Fault(u16, usize),
+    Fault { number: u16, part: usize },
     Good(usize),
 }
 
@@ -50,7 +50,7 @@ pub enum Behind {
 // it ask for, and then that two sides are equal; that a right is the same at every index; that a right is there.
 pub enum Asked {
     Same(u16),
-    Led(u16, u16),
+    Led { before: u16, number: u16 },
     Level(u16),
     Present(u16),
 }
@@ -64,7 +64,7 @@ pub fn plain_right(certificate: &[u8], at: usize, i: u16, j: u16) -> Subject
     if any.value == 0 {
         return Subject::Empty;
     }
-    Subject::Plain(term, i, j)
+    Subject::Plain { at: term, i, j }
 }
 
 // The right at a bit, reindexed and filled by a use's filling.
@@ -76,7 +76,7 @@ pub fn used_right(certificate: &[u8], at: usize, i: u16, j: u16) -> Subject
     if any.value == 0 {
         return Subject::Empty;
     }
-    Subject::Used(term, i, j)
+    Subject::Used { at: term, i, j }
 }
 
 // The same, else a number; then two sides are equal, else another.
@@ -96,7 +96,7 @@ fn led_equal(
     ensures { λ r. ⌜ LedEquals (now (book .entry)) (now (certificate .entry)) before number part right behind a b (now (w .entry)) (now (w .exit)) r ⌝ }
 {
     match rights::led(certificate, before, part, right, behind) {
-        Found::Fault(n, p) => Found::Fault(n, p),
+        Found::Fault { number: n, part: p } => Found::Fault { number: n, part: p },
         Found::Good(_) => sides::equal(book, certificate, w, number, part, a, b),
     }
 }
@@ -109,7 +109,10 @@ fn asked_at(kind: Kind, part: usize) -> Asked
         Kind::Unfold => match part {
             0 => Asked::Same(9),
             15 => Asked::Same(12),
-            _ => Asked::Led(11, 10),
+            _ => Asked::Led {
+                before: 11,
+                number: 10,
+            },
         },
         Kind::Descent => match part {
             0 => Asked::Same(9),
@@ -142,7 +145,10 @@ pub fn check(
 {
     match asked_at(kind, part) {
         Asked::Same(n) => sides::equal(book, certificate, w, n, part, a, b),
-        Asked::Led(l, n) => led_equal(book, certificate, w, l, n, part, right, behind, a, b),
+        Asked::Led {
+            before: l,
+            number: n,
+        } => led_equal(book, certificate, w, l, n, part, right, behind, a, b),
         Asked::Level(n) => rights::level(book, certificate, n, part, right),
         Asked::Present(n) => rights::present(certificate, n, part, right),
     }

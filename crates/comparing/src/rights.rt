@@ -19,7 +19,7 @@ fn spent(certificate: &[u8], number: u16, part: usize, right: usize) -> Found
     if is_empty(certificate, right) {
         return Found::Good(0);
     }
-    Found::Fault(number, part)
+    Found::Fault { number, part }
 }
 
 // A right is not the empty mark, else a number.
@@ -27,7 +27,7 @@ pub fn present(certificate: &[u8], number: u16, part: usize, right: usize) -> Fo
     ensures { λ r. ⌜ Looks (now (certificate .entry)) right Behind.Pending number part r ⌝ }
 {
     if is_empty(certificate, right) {
-        return Found::Fault(number, part);
+        return Found::Fault { number, part };
     }
     Found::Good(0)
 }
@@ -55,5 +55,5 @@ pub fn level(book: &[u8], certificate: &[u8], number: u16, part: usize, right: u
     if instances::level(book, certificate, term) {
         return Found::Good(0);
     }
-    Found::Fault(number, part)
+    Found::Fault { number, part }
 }

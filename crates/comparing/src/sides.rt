@@ -20,9 +20,9 @@ fn one_side(book: &[u8], certificate: &[u8], w: &mut [u64], base: usize, a: Subj
     ensures { λ r. ⌜ Sided (now (book .entry)) (now (certificate .entry)) base a (now (w .entry)) (now (w .exit)) r ⌝ }
 {
     match a {
-        Subject::Empty => Side::Done(0, 0),
+        Subject::Empty => Side::Done { nodes: 0, end: 0 },
         Subject::Call(at) => instances::build(book, book, certificate, w, base, at, 1, 0, OWN),
-        Subject::Plain(at, i, j) => instances::build(
+        Subject::Plain { at, i, j } => instances::build(
             book,
             certificate,
             certificate,
@@ -33,7 +33,7 @@ fn one_side(book: &[u8], certificate: &[u8], w: &mut [u64], base: usize, a: Subj
             j,
             EMPTY,
         ),
-        Subject::Used(at, i, j) => instances::build(
+        Subject::Used { at, i, j } => instances::build(
             book,
             certificate,
             certificate,
@@ -52,10 +52,10 @@ fn compare(book: &[u8], certificate: &[u8], w: &mut [u64], a: Subject, b: Subjec
     requires { ⌜ WORDS ≤ length (now w) ⌝ }
     ensures { λ r. ⌜ Compares (now (book .entry)) (now (certificate .entry)) a b (now (w .entry)) (now (w .exit)) r ⌝ }
 {
-    let Side::Done(n, end) = one_side(book, certificate, w, FIRST, a) else {
+    let Side::Done { nodes: n, end } = one_side(book, certificate, w, FIRST, a) else {
         return Compared::TooBig;
     };
-    let Side::Done(m, _) = one_side(book, certificate, w, SECOND, b) else {
+    let Side::Done { nodes: m, .. } = one_side(book, certificate, w, SECOND, b) else {
         return Compared::TooBig;
     };
     if table::same(w, FIRST, n, SECOND, m) {
@@ -78,8 +78,8 @@ pub fn equal(
     ensures { λ r. ⌜ Equals (now (book .entry)) (now (certificate .entry)) number part a b (now (w .entry)) (now (w .exit)) r ⌝ }
 {
     match compare(book, certificate, w, a, b) {
-        Compared::TooBig => Found::Fault(16, part),
-        Compared::Unequal => Found::Fault(number, part),
+        Compared::TooBig => Found::Fault { number: 16, part },
+        Compared::Unequal => Found::Fault { number, part },
         Compared::Equal(end) => Found::Good(end),
     }
 }

@@ -22,7 +22,11 @@ fn descent_base(
     requires { ⌜ WORDS ≤ length (now w) ⌝ }
     ensures { λ r. ⌜ DescentBase (now (book .entry)) (now (certificate .entry)) left right base (now (w .entry)) (now (w .exit)) r ⌝ }
 {
-    let theirs = Subject::Used(base.left, base.i, base.j);
+    let theirs = Subject::Used {
+        at: base.left,
+        i: base.i,
+        j: base.j,
+    };
     let their_right = comparing::used_right(certificate, base.right, base.i, base.j);
     let own_right = comparing::plain_right(certificate, right, 0, 0);
     match comparing::check(
@@ -34,9 +38,13 @@ fn descent_base(
         right,
         Behind::Nothing,
         theirs,
-        Subject::Plain(left, 0, 0),
+        Subject::Plain {
+            at: left,
+            i: 0,
+            j: 0,
+        },
     ) {
-        Found::Fault(n, p) => Found::Fault(n, p),
+        Found::Fault { number: n, part: p } => Found::Fault { number: n, part: p },
         Found::Good(_) => comparing::check(
             book,
             certificate,
@@ -65,7 +73,7 @@ fn descent_head(
     ensures { λ r. ⌜ DescentHead (now (book .entry)) (now (certificate .entry)) left right base head (now (w .entry)) (now (w .exit)) r ⌝ }
 {
     match descent_base(book, certificate, w, left, right, base) {
-        Found::Fault(n, p) => Found::Fault(n, p),
+        Found::Fault { number: n, part: p } => Found::Fault { number: n, part: p },
         Found::Good(_) => comparing::check(
             book,
             certificate,
@@ -75,7 +83,11 @@ fn descent_head(
             right,
             Behind::Nothing,
             Subject::Call(head),
-            Subject::Plain(left, 1, 1),
+            Subject::Plain {
+                at: left,
+                i: 1,
+                j: 1,
+            },
         ),
     }
 }
@@ -94,7 +106,7 @@ fn descent_call(
     ensures { λ r. ⌜ DescentCall (now (book .entry)) (now (certificate .entry)) left right base head (now (w .entry)) (now (w .exit)) r ⌝ }
 {
     match descent_head(book, certificate, w, left, right, base, head) {
-        Found::Fault(n, p) => Found::Fault(n, p),
+        Found::Fault { number: n, part: p } => Found::Fault { number: n, part: p },
         Found::Good(call) => comparing::check(
             book,
             certificate,
@@ -104,7 +116,11 @@ fn descent_call(
             right,
             Behind::Nothing,
             Subject::Call(call),
-            Subject::Plain(left, 1, 0),
+            Subject::Plain {
+                at: left,
+                i: 1,
+                j: 0,
+            },
         ),
     }
 }
@@ -125,7 +141,7 @@ fn level_right(book: &[u8], certificate: &[u8], w: &mut [u64], right: usize, at:
         Subject::Empty,
         Subject::Empty,
     ) {
-        Found::Fault(n, p) => Found::Fault(n, p),
+        Found::Fault { number: n, part: p } => Found::Fault { number: n, part: p },
         Found::Good(_) => Found::Good(at),
     }
 }
@@ -146,7 +162,7 @@ fn descent_by(
 {
     let calls = instances::field(book, 4, rule);
     match descent_call(book, certificate, w, left, right, base, calls.at) {
-        Found::Fault(n, p) => Found::Fault(n, p),
+        Found::Fault { number: n, part: p } => Found::Fault { number: n, part: p },
         Found::Good(_) => level_right(book, certificate, w, right, at),
     }
 }

@@ -32,9 +32,21 @@ pub struct Read {
 // The header of a node, with the cursor past it: a variable, a symbol with its arity, or a power of a symbol with a and b. It is missing where a field
 // runs past the end or the tag is 3.
 enum Header {
-    Variable(u16, Cursor),
-    Symbol(u16, u16, Cursor),
-    Power(u16, u16, u16, Cursor),
+    Variable {
+        variable: u16,
+        past: Cursor,
+    },
+    Symbol {
+        symbol: u16,
+        arity: u16,
+        past: Cursor,
+    },
+    Power {
+        symbol: u16,
+        a: u16,
+        b: u16,
+        past: Cursor,
+    },
     Missing,
 }
 
@@ -46,7 +58,7 @@ struct Place {
 
 // A side of a comparison: how many nodes it has, and where the term behind it ends; or it has more than 1,024.
 pub enum Side {
-    Done(usize, usize),
+    Done { nodes: usize, end: usize },
     Full,
 }
 
@@ -68,15 +80,19 @@ fn next(header: Header, pending: usize) -> Place
     ensures { λ r. ⌜ Next pending header r ⌝ }
 {
     match header {
-        Header::Variable(_, c) => Place {
+        Header::Variable { past: c, .. } => Place {
             at: c.at,
             pending: pending - 1,
         },
-        Header::Symbol(_, n, c) => Place {
+        Header::Symbol {
+            arity: n,
+            past: c,
+            ..
+        } => Place {
             at: c.at,
             pending: pending - 1 + (n as usize),
         },
-        Header::Power(_, _, _, c) => Place { at: c.at, pending },
+        Header::Power { past: c, .. } => Place { at: c.at, pending },
         Header::Missing => Place { at: 0, pending: 0 },
     }
 }
@@ -104,9 +120,9 @@ fn calm(header: Header) -> bool
     ensures { λ r. ⌜ Says (Every Calm (single header)) r ⌝ }
 {
     match header {
-        Header::Variable(_, _) => true,
-        Header::Symbol(_, _, _) => true,
-        Header::Power(_, a, _, _) => a == 0,
+        Header::Variable { .. } => true,
+        Header::Symbol { .. } => true,
+        Header::Power { a, .. } => a == 0,
         Header::Missing => true,
     }
 }
@@ -139,9 +155,14 @@ fn push_node(w: &mut [u64], base: usize, n: usize, header: Header, i: u16, j: u1
     ensures { λ r. ⌜ Took base n (retag (shift (i, j)) (single header)) (now (w .entry)) (now (w .exit)) r ⌝ }
 {
     match header {
-        Header::Variable(x, _) => table::push(w, base, n, Item::Variable(x)),
-        Header::Symbol(f, _, _) => table::push(w, base, n, Item::Symbol(f)),
-        Header::Power(s, a, b, _) => table::push(w, base, n, table::reindexed(s, a, b, i, j)),
+        Header::Variable { variable: x, .. } => table::push(w, base, n, Item::Variable(x)),
+        Header::Symbol { symbol: f, .. } => table::push(w, base, n, Item::Symbol(f)),
+        Header::Power {
+            symbol: s,
+            a,
+            b,
+            ..
+        } => table::push(w, base, n, table::reindexed(s, a, b, i, j)),
         Header::Missing => Pushed::Count(n),
     }
 }
@@ -177,14 +198,14 @@ fn word_of(w: &[u64], fills: usize, header: Header) -> u64
     ensures { λ r. ⌜ r ≡ wordOf (now (w .entry)) fills header ⌝ }
 {
     match header {
-        Header::Variable(x, _) => {
+        Header::Variable { variable: x, .. } => {
             if x < 64 {
                 return w[fills + (x as usize)];
             }
             0
         }
-        Header::Symbol(_, _, _) => 0,
-        Header::Power(_, _, _, _) => 0,
+        Header::Symbol { .. } => 0,
+        Header::Power { .. } => 0,
         Header::Missing => 0,
     }
 }
@@ -234,7 +255,10 @@ pub fn build(
     while left > 0 {
         let pending = p.pending;
         if pending == 0 {
-            return Side::Done(n, p.at);
+            return Side::Done {
+                nodes: n,
+                end: p.at,
+            };
         }
         let header = header_at(book, s, p.at);
         let Pushed::Count(k) = push_filled(book, certificate, w, base, n, header, i, j, fills)
@@ -245,5 +269,8 @@ pub fn build(
         p = next(header, pending);
         left -= 1;
     }
-    Side::Done(n, p.at)
+    Side::Done {
+        nodes: n,
+        end: p.at,
+    }
 }

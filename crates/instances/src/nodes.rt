@@ -10,7 +10,10 @@ fn variable(s: &[u8], c: Cursor) -> Header
     ensures { λ r. ⌜ r ≡ variableAt (now (s .entry)) (c .at) ⌝ }
 {
     match c.take(6, s) {
-        Field::Got(x, d) => Header::Variable(x, d),
+        Field::Got(x, d) => Header::Variable {
+            variable: x,
+            past: d,
+        },
         Field::Past => Header::Missing,
     }
 }
@@ -21,7 +24,11 @@ fn symbol(book: &[u8], s: &[u8], c: Cursor) -> Header
 {
     let none = [0u16; 0];
     match c.take(8, s) {
-        Field::Got(f, d) => Header::Symbol(f, terms::arity(book, &none, false, f), d),
+        Field::Got(f, d) => Header::Symbol {
+            symbol: f,
+            arity: terms::arity(book, &none, false, f),
+            past: d,
+        },
         Field::Past => Header::Missing,
     }
 }
@@ -39,7 +46,12 @@ fn power(s: &[u8], c: Cursor) -> Header
     let Field::Got(b, g) = e.take(12, s) else {
         return Header::Missing;
     };
-    Header::Power(f, a, b, g)
+    Header::Power {
+        symbol: f,
+        a,
+        b,
+        past: g,
+    }
 }
 
 // The header of the node at a bit.

@@ -76,7 +76,11 @@ fn closing_parts(
     let left = begins::noted(w, LEFTS + line);
     let right = begins::noted(w, RIGHTS + line);
     let from = comparing::plain_right(certificate, right, 1, alpha);
-    let to = Subject::Used(left, 1, alpha + k);
+    let to = Subject::Used {
+        at: left,
+        i: 1,
+        j: alpha + k,
+    };
     match comparing::check(
         book,
         certificate,
@@ -88,7 +92,7 @@ fn closing_parts(
         Subject::Empty,
         Subject::Empty,
     ) {
-        Found::Fault(n, p) => Found::Fault(n, p),
+        Found::Fault { number: n, part: p } => Found::Fault { number: n, part: p },
         Found::Good(_) => comparing::check(
             book,
             certificate,
@@ -116,7 +120,7 @@ fn closing_by(
     ensures { λ r. ⌜ ClosingBy (now (book .entry)) (now (certificate .entry)) line k alpha (now (w .entry)) (now (w .exit)) r ⌝ }
 {
     match closing_parts(book, certificate, w, line, k, alpha) {
-        Found::Fault(n, p) => refused(n, Place::Closing, line, p),
+        Found::Fault { number: n, part: p } => refused(n, Place::Closing, line, p),
         Found::Good(_) => accepted(line, k, alpha),
     }
 }
@@ -162,7 +166,7 @@ fn lines(book: &[u8], certificate: &[u8], w: &mut [u64], at: usize, k: usize, n:
     let mut more = n;
     while more > 0 {
         match line(book, certificate, w, next, number) {
-            Found::Fault(m, part) => {
+            Found::Fault { number: m, part } => {
                 return refused(m, Place::Line, number, part);
             }
             Found::Good(end) => {

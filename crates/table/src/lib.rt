@@ -35,7 +35,7 @@ pub const NODES: usize = 1024;
 pub enum Item {
     Variable(u16),
     Symbol(u16),
-    Power(u16, u64, u64),
+    Power { symbol: u16, a: u64, b: u64 },
 }
 
 // How many nodes the side holds after a push, or that it would have to hold more than 1,024.
@@ -55,7 +55,11 @@ fn times(a: u16, i: u16) -> u64
 pub fn reindexed(s: u16, a: u16, b: u16, i: u16, j: u16) -> Item
     ensures { λ r. ⌜ Reindexed s a b i j r ⌝ }
 {
-    Item::Power(s, times(a, i), times(a, j) + (b as u64))
+    Item::Power {
+        symbol: s,
+        a: times(a, i),
+        b: times(a, j) + (b as u64),
+    }
 }
 
 // The three words of a node.
@@ -120,7 +124,7 @@ pub fn push(w: &mut [u64], base: usize, n: usize, node: Item) -> Pushed
     match node {
         Item::Variable(x) => store(w, base, n, 3 * (x as u64), 0, 0),
         Item::Symbol(f) => store(w, base, n, 3 * (f as u64) + 1, 0, 0),
-        Item::Power(s, a, b) => push_power(w, base, n, s, a, b),
+        Item::Power { symbol: s, a, b } => push_power(w, base, n, s, a, b),
     }
 }
 

@@ -25,7 +25,7 @@ fn ending(found: Found, at: usize) -> Found
     ensures { λ r. ⌜ EndsAt found at r ⌝ }
 {
     match found {
-        Found::Fault(n, p) => Found::Fault(n, p),
+        Found::Fault { number: n, part: p } => Found::Fault { number: n, part: p },
         Found::Good(_) => Found::Good(at),
     }
 }
@@ -70,7 +70,11 @@ fn part_by(
     requires { ⌜ WORDS ≤ length (now w) ⌝ }
     ensures { λ r. ⌜ PartBy (now (book .entry)) (now (certificate .entry)) j behind call used (now (w .entry)) (now (w .exit)) r ⌝ }
 {
-    let theirs = Subject::Used(used.left, used.i, used.j);
+    let theirs = Subject::Used {
+        at: used.left,
+        i: used.i,
+        j: used.j,
+    };
     comparing::check(
         book,
         certificate,
@@ -102,7 +106,7 @@ fn last_by(
     let end = used.end;
     let behind = behind_stop(j, count);
     match part_by(book, certificate, w, j, behind, call, used) {
-        Found::Fault(n, p) => Found::Fault(n, p),
+        Found::Fault { number: n, part: p } => Found::Fault { number: n, part: p },
         Found::Good(_) => stop_by(book, certificate, w, right, theirs, end),
     }
 }
@@ -168,7 +172,7 @@ fn parts(
     let used = begins::read_use(book, certificate, w, at);
     let end = used.end;
     match part_by(book, certificate, w, j, Behind::Judged, call, used) {
-        Found::Fault(n, p) => Found::Fault(n, p),
+        Found::Fault { number: n, part: p } => Found::Fault { number: n, part: p },
         Found::Good(next) => parts(
             book,
             certificate,
@@ -229,9 +233,13 @@ fn unfold_by(
         right,
         Behind::Nothing,
         head,
-        Subject::Plain(left, 1, 0),
+        Subject::Plain {
+            at: left,
+            i: 1,
+            j: 0,
+        },
     ) {
-        Found::Fault(n, p) => Found::Fault(n, p),
+        Found::Fault { number: n, part: p } => Found::Fault { number: n, part: p },
         Found::Good(call) => stop(book, certificate, w, right, i, count, call, at),
     }
 }
