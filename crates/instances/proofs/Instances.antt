@@ -21,16 +21,18 @@ use Rattle.table.proofs.Marks.{built-instance}
 use Rattle.instances.specs.Lying.{TermAt}
 use Rattle.instances.specs.Fillings.{entry, Entry, unlisted, listed, Fills}
 use Rattle.instances.specs.Instances.{Stored, Few, Builds}
-use Rattle.instances.specs.Walks.{single, Walk, walked}
+use Rattle.instances.specs.Walks.{single, Walk, Steps, walked}
 use Rattle.instances.specs.Filled.{wordOf, filled}
 use Rattle.instances.specs.declared.Header.{Header}
 use Rattle.instances.specs.declared.Header.the-variants.{Variable, Symbol, Power, Missing}
 use Rattle.instances.specs.declared.Place.{Place}
+use Rattle.instances.specs.declared.Turn.{Turn}
+use Rattle.instances.specs.declared.Turn.the-variants.{Over}
 use Rattle.instances.specs.declared.Side.the-variants.{Done, Full}
 use Rattle.instances.proofs.Walks.{walked-term}
-use Rattle.instances.proofs.Goings.{going-done, going-out}
+use Rattle.instances.proofs.Goings.{going-over}
 use Rattle.instances.proofs.Loads.{filled-light}
-use Rattle.instances.proofs.Pushings.{took-as, Pushing, pushing-done, pushing-out, pushing-room, pushing-light}
+use Rattle.instances.proofs.Pushings.{took-as, Pushing, pushing-over, pushing-room, pushing-light}
 
 -- ---- one node of an instance
 
@@ -128,12 +130,9 @@ module _ (book cert w : List ℕ) (fills i j : ℕ) where
       kept = p .kept;
     }
 
-    module _ (n left : ℕ) (p : Place) (g : Pushing (filled book cert w fills i j) book s at base 0 w v n left p) where
-      pub built-done : p .pending ≡ 0 → Builds book s cert base at i j fills w v (Done n (p .at))
-      built-done h = finished n (p .at) _ (going-done book s at (g .met) left p (g .going) h) (pushing-done _ book s at base 0 w v n left p g h)
-
-      pub built-out : left ≤ 0 → Builds book s cert base at i j fills w v (Done n (p .at))
-      built-out h = finished n (p .at) _ (going-out book s at (g .met) left p (g .going) h) (pushing-out _ book s at base 0 w v n left p g h)
+    pub built-over : {n left : ℕ} {p : Place} → Pushing (filled book cert w fills i j) book s at base 0 w v n left p → {r : Turn} → Steps book s left p r
+        → r ≡ Over → Builds book s cert base at i j fills w v (Done n (p .at))
+    built-over {n} {left} {p} g k e = finished n (p .at) _ (going-over g k e) (pushing-over _ book s at base 0 w v n left p g k e)
 
     -- the next node fits
     pub building-fits : (n left : ℕ) (p : Place) → Pushing (filled book cert w fills i j) book s at base 0 w v n left p

@@ -20,7 +20,7 @@ ghost use Rattle.table.specs.Sides.{Room, Took};
 ghost use Rattle.table.specs.Places.{SIDE};
 ghost use Rattle.instances.specs.Taking.{Takes};
 ghost use Rattle.instances.specs.Instances.{Skips, Levels, Builds};
-ghost use Rattle.instances.specs.Walks.{single, Next, walked, Calm};
+ghost use Rattle.instances.specs.Walks.{single, Next, Within, Steps, walked, Calm};
 ghost use Rattle.instances.specs.Filled.{wordOf, filled};
 
 // A field, and the bit behind it.
@@ -54,6 +54,12 @@ enum Header {
 struct Place {
     at: usize,
     pending: usize,
+}
+
+// A turn of a walk: the header that it meets, and the place behind that node; or the walk is over.
+enum Turn {
+    Node { header: Header, place: Place },
+    Over,
 }
 
 // A side of a comparison: how many nodes it has, and where the term behind it ends; or it has more than 1,024.
@@ -97,22 +103,36 @@ fn next(header: Header, pending: usize) -> Place
     }
 }
 
+// One turn of a walk that meets at most `left` nodes more.
+fn step(book: &[u8], s: &[u8], p: Place, left: usize) -> Turn
+    requires { ⌜ Within left p ⌝ }
+    ensures { λ r. ⌜ Steps (now (book .entry)) (now (s .entry)) left p r ⌝ }
+{
+    let pending = p.pending;
+    if left == 0 {
+        return Turn::Over;
+    }
+    if pending == 0 {
+        return Turn::Over;
+    }
+    let header = header_at(book, s, p.at);
+    let place = next(header, pending);
+    Turn::Node { header, place }
+}
+
 // Where the term at a bit ends.
 pub fn skip(book: &[u8], s: &[u8], at: usize) -> usize
     ensures { λ r. ⌜ Skips (now (book .entry)) (now (s .entry)) at r ⌝ }
 {
     let mut p = Place { at, pending: 1 };
     let mut left: usize = 256;
-    while left > 0 {
-        let pending = p.pending;
-        if pending == 0 {
+    loop {
+        let Turn::Node { place, .. } = step(book, s, p, left) else {
             return p.at;
-        }
-        let header = header_at(book, s, p.at);
-        p = next(header, pending);
+        };
+        p = place;
         left -= 1;
     }
-    p.at
 }
 
 // Whether a = 0 in a node.
@@ -133,19 +153,16 @@ pub fn level(book: &[u8], s: &[u8], at: usize) -> bool
 {
     let mut p = Place { at, pending: 1 };
     let mut left: usize = 256;
-    while left > 0 {
-        let pending = p.pending;
-        if pending == 0 {
+    loop {
+        let Turn::Node { header, place } = step(book, s, p, left) else {
             return true;
-        }
-        let header = header_at(book, s, p.at);
+        };
         if !calm(header) {
             return false;
         }
-        p = next(header, pending);
+        p = place;
         left -= 1;
     }
-    true
 }
 
 // A node, reindexed by (i, j).
@@ -176,20 +193,17 @@ fn spell(book: &[u8], s: &[u8], w: &mut [u64], base: usize, count: usize, at: us
     let mut n = count;
     let mut p = Place { at, pending: 1 };
     let mut left: usize = 256;
-    while left > 0 {
-        let pending = p.pending;
-        if pending == 0 {
+    loop {
+        let Turn::Node { header, place } = step(book, s, p, left) else {
             return Pushed::Count(n);
-        }
-        let header = header_at(book, s, p.at);
+        };
         let Pushed::Count(k) = push_node(w, base, n, header, 1, 0) else {
             return Pushed::NoRoom;
         };
         n = k;
-        p = next(header, pending);
+        p = place;
         left -= 1;
     }
-    Pushed::Count(n)
 }
 
 // What the filling's table at `fills` has for a node: 0, or one more than the place of its term.
@@ -249,28 +263,19 @@ pub fn build(
     requires { ⌜ (base + SIDE ≤ length (now w)) × (fills + 64 ≤ base) ⌝ }
     ensures { λ r. ⌜ Builds (now (book .entry)) (now (s .entry)) (now (certificate .entry)) base at i j fills (now (w .entry)) (now (w .exit)) r ⌝ }
 {
-    let mut n: usize = 0;
+    let mut nodes: usize = 0;
     let mut p = Place { at, pending: 1 };
     let mut left: usize = 256;
-    while left > 0 {
-        let pending = p.pending;
-        if pending == 0 {
-            return Side::Done {
-                nodes: n,
-                end: p.at,
-            };
-        }
-        let header = header_at(book, s, p.at);
-        let Pushed::Count(k) = push_filled(book, certificate, w, base, n, header, i, j, fills)
+    loop {
+        let Turn::Node { header, place } = step(book, s, p, left) else {
+            return Side::Done { nodes, end: p.at };
+        };
+        let Pushed::Count(k) = push_filled(book, certificate, w, base, nodes, header, i, j, fills)
         else {
             return Side::Full;
         };
-        n = k;
-        p = next(header, pending);
+        nodes = k;
+        p = place;
         left -= 1;
-    }
-    Side::Done {
-        nodes: n,
-        end: p.at,
     }
 }
