@@ -17,29 +17,32 @@ use Rattle.patterns.specs.Checks.{instance}
 use Rattle.patterns.specs.Demand.{level}
 use Rattle.patterns.specs.Judge.{check, compare, sole, line-checks}
 use Rattle.grammar.specs.Listing.{term-fields, use-fields, kind-fields, filling-fields}
-use Rattle.grammar.specs.Limits.{RootFits, KindFits}
-use Rattle.checking.specs.declared.Read.{Read}
-use Rattle.checking.specs.declared.Found.{Found}
-use Rattle.checking.specs.declared.Found.the-variants.{Fault, Good}
-use Rattle.checking.specs.declared.Kind.the-variants.{Descent}
-use Rattle.checking.specs.declared.Instance.{Instance}
-use Rattle.checking.specs.declared.Subject.{Subject}
-use Rattle.checking.specs.declared.Subject.the-variants.{Empty, Call, Plain, Used}
-use Rattle.checking.specs.declared.Behind.the-variants.{Nothing}
-use Rattle.instances.specs.Lying.{Lies, behind}
-use Rattle.fillings.specs.Listings.{Lists}
-use Rattle.checking.specs.Placed.{Takes, Known-arities, RightAt, RuleAt}
-use Rattle.checking.specs.Known.{Below, Uses, ReadsUse}
-use Rattle.checking.specs.Subjects.{Means, PlainRight, UsedRight}
-use Rattle.checking.specs.Found.{Finds}
-use Rattle.checking.specs.Asked.{asked-at, checks-of, end-of, Checks}
+use Rattle.grammar.specs.Limits.{RootFits, KindFits, call-counts}
+use Rattle.instances.specs.declared.Read.{Read}
+use Rattle.comparing.specs.declared.Found.{Found}
+use Rattle.comparing.specs.declared.Found.the-variants.{Fault, Good}
+use Rattle.comparing.specs.declared.Kind.the-variants.{Descent}
+use Rattle.begins.specs.declared.Instance.{Instance}
+use Rattle.comparing.specs.declared.Subject.{Subject}
+use Rattle.comparing.specs.declared.Subject.the-variants.{Empty, Call, Plain, Used}
+use Rattle.comparing.specs.declared.Behind.the-variants.{Nothing}
+use Rattle.instances.specs.Lying.{Lies, behind, Known-arities}
+use Rattle.instances.specs.Listings.{Lists}
+use Rattle.begins.specs.Placed.{RightAt, RuleAt}
+use Rattle.instances.specs.Taking.{Takes}
+use Rattle.begins.specs.Known.{Below, Uses, ReadsUse}
+use Rattle.comparing.specs.Subjects.{Means, PlainRight, UsedRight}
+use Rattle.comparing.specs.Found.{Finds}
+use Rattle.comparing.specs.Asked.{asked-at, checks-of, end-of, Checks}
 use Rattle.descents.specs.Descents.{Descending, base-checks, DescentBase, HeadAt, DescentHead, DescentCall, LevelRight, DescentBy, DescentOn, DescentAt}
 use Rattle.instances.proofs.Lying.{lies-front, lies-back}
-use Rattle.checking.proofs.Using.{rest-at}
-use Rattle.checking.proofs.Frames.{below-then, below-less, kept-below, known-below, scene-below, uses-below, tells-above}
-use Rattle.checking.proofs.Meanings.{call-means, left-means, left-itself, used-means}
-use Rattle.checking.proofs.Finding.{finds-fault, finds-last, finds-stop, finds-then, finds-ending}
-use Rattle.unfolds.proofs.Naming.{named, finds-given, head-lies, calls-at, named-rule}
+use Rattle.instances.proofs.Taking.{rest-at}
+use Rattle.begins.proofs.Frames.{below-then, below-less, kept-below, known-below, scene-below, uses-below, tells-above}
+use Rattle.comparing.proofs.Meanings.{call-means, left-means, left-itself, used-means}
+use Rattle.comparing.proofs.Finding.{finds-fault, finds-last, finds-stop, finds-then, finds-ending, finds-given}
+use Rattle.patterns.proofs.Every.{below-listed, map-listed}
+use Rattle.table.specs.Places.{OWN, FIRST}
+use Rattle.begins.proofs.Calling.{head-lies, calls-at}
 
 -- ---- the parts of a descent
 
@@ -70,7 +73,7 @@ module _ {book cert w v : List ℕ} {left right : ℕ} {base : Instance} {r : Fo
           (a .0, finds-then (first-found D) q (λ z. second .told ars (known .arity) _ (D .right-at) _ _ (a .1) _ _ (b .1)))
 
 descending-below : {book cert w v ars : List ℕ} {B : Book Exp} {es : List (Claim Exp)} {θ : Fills Exp} {left right : ℕ} {l : Claim Exp} {u : Use Exp Pair} {c : Claim Exp} {base : Instance}
-    → Below 1024 w v → Descending book cert w ars B es θ left right l u c base → Descending book cert v ars B es θ left right l u c base
+    → Below FIRST w v → Descending book cert w ars B es θ left right l u c base → Descending book cert v ars B es θ left right l u c base
 descending-below b D = record {
   scene = scene-below (below-less (omega arith) b) (D .scene);
   left-at = D .left-at;
@@ -155,18 +158,18 @@ sole-call (v ∷ []) e = (v, refl)
 sole-call (v ∷ t ∷ vs) e = absurd (omega arith)
 
 pub descent-on : {book cert w v after : List ℕ} {left right begin end : ℕ} {base : Instance} {c : Read} {r : Found} → Takes cert 8 (base .end) c
-    → begin ≡ getD w (c .value) 0 → Lists book cert 832 (c .at) w v end → DescentBy book cert left right base begin end v after r
+    → begin ≡ getD w (c .value) 0 → Lists book cert OWN (c .at) w v end → DescentBy book cert left right base begin end v after r
     → DescentOn book cert left right base w after r
-unfolding width line-checks sole
+unfolding width line-checks sole call-counts
 descent-on {book} {cert} {w} {v} {after} {left} {right} {begin} {end} {base} {c} {r} t e f p = record {
   told = λ ars B es known l L R u d U k θ n fits lies found.
       let x = t .told k _ lies in
       let g = f .told ars (known .arity) θ fits (rest-at t lies) in
-      let N = named-rule B k 1 n in
-      let only-call = sole-call (N .rule .calls) (N .calls) in
-      let here : RuleAt book ars begin (N .rule) =
-      subst (λ j. RuleAt book ars j (N .rule)) (ap (λ j. getD w j 0) (sym (x .0)) ∙ sym e) (known .rule k (N .rule) (N .found)) in
-      let only : sole (N .rule .calls) ≡ some (only-call .0) = ap sole (only-call .1) in
+      let N = map-listed (λ r. length (r .calls)) B k 1 n in
+      let only-call = sole-call (N .0 .calls) (N .2) in
+      let here : RuleAt book ars begin (N .0) =
+      subst (λ j. RuleAt book ars j (N .0)) (ap (λ j. getD w j 0) (sym (x .0)) ∙ sym e) (known .rule k (N .0) (N .1)) in
+      let only : sole (N .0 .calls) ≡ some (only-call .0) = ap sole (only-call .1) in
       let D : Descending book cert v ars B es θ left right l u d base = record {
         scene = record { known = known-below (kept-below (f .kept)) known; own = g .0 };
         left-at = L;
@@ -174,7 +177,7 @@ descent-on {book} {cert} {w} {v} {after} {left} {right} {begin} {end} {base} {c}
         base-at = record { claim-at = U .claim-at; i = U .i; j = U .j; used = tells-above (omega arith) (f .kept) (U .used) };
       } in
       finds-ending (omega (arith, x .1, g .1))
-      (finds-given _ found (finds-given _ (N .found) (finds-given _ only (p .told ars B es θ l u d D (N .rule) (only-call .0) here (only-call .1)))));
+      (finds-given _ found (finds-given _ (N .1) (finds-given _ only (p .told ars B es θ l u d D (N .0) (only-call .0) here (only-call .1)))));
   below = below-then (kept-below (f .kept)) (below-less (omega arith) (p .below));
 }
 
@@ -183,10 +186,10 @@ pub descent-at : {book cert w v after : List ℕ} {left right at : ℕ} {base : 
 unfolding kind-fields KindFits
 descent-at {book} {cert} {w} {v} {after} {left} {right} {at} {base} {r} read p = record {
   told = λ ars B es known l L R u k θ fits lies.
-      let n = named es (u .line) (fits .0 .earlier) in
-      let x = read .told ars B es known (length es) u (n .claim) (fits .0) (lies-front cert at (use-fields u) ((8, k) ∷ filling-fields θ) lies) (n .found) in
+      let n = below-listed es (u .line) (fits .0 .earlier) in
+      let x = read .told ars B es known (length es) u (n .0) (fits .0) (lies-front cert at (use-fields u) ((8, k) ∷ filling-fields θ) lies) (n .1) in
       let rest = subst (λ j. Lies cert j ((8, k) ∷ filling-fields θ)) (sym (x .1)) (lies-back cert at (use-fields u) ((8, k) ∷ filling-fields θ) lies) in
       finds-ending (omega (arith, x .1, width-append (use-fields u) ((8, k) ∷ filling-fields θ)))
-      (p .told ars B es (known-below (below-less (omega arith) (read .below)) known) l L R u (n .claim) (x .0) k θ (fits .1) (fits .2) rest (n .found));
+      (p .told ars B es (known-below (below-less (omega arith) (read .below)) known) l L R u (n .0) (x .0) k θ (fits .1) (fits .2) rest (n .1));
   below = below-then (below-less (omega arith) (read .below)) (p .below);
 }

@@ -1,11 +1,13 @@
 // The checks of a descent.
-use checking::Behind;
-use checking::Found;
-use checking::Instance;
-use checking::Kind;
-use checking::Subject;
+use begins::Instance;
+use comparing::Behind;
+use comparing::Found;
+use comparing::Kind;
+use comparing::Subject;
+use table::OWN;
 ghost use Prim.Native.Nat.{_≤_};
 ghost use lib.ListN.{length};
+ghost use Rattle.table.specs.Places.{WORDS};
 ghost use Rattle.descents.specs.Descents.{DescentBase, DescentHead, DescentCall, LevelRight, DescentBy, DescentOn, DescentAt};
 
 // Parts 0 and 1 of a descent: its base, by a use that was read.
@@ -17,13 +19,17 @@ fn descent_base(
     right: usize,
     base: Instance,
 ) -> Found
-    requires { ⌜ 8192 ≤ length (now w) ⌝ }
+    requires { ⌜ WORDS ≤ length (now w) ⌝ }
     ensures { λ r. ⌜ DescentBase (now (book .entry)) (now (certificate .entry)) left right base (now (w .entry)) (now (w .exit)) r ⌝ }
 {
-    let theirs = Subject::Used(base.left, base.i, base.j);
-    let their_right = checking::used_right(certificate, base.right, base.i, base.j);
-    let own_right = checking::plain_right(certificate, right, 0, 0);
-    match checking::check(
+    let theirs = Subject::Used {
+        at: base.left,
+        i: base.i,
+        j: base.j,
+    };
+    let their_right = comparing::used_right(certificate, base.right, base.i, base.j);
+    let own_right = comparing::plain_right(certificate, right, 0, 0);
+    match comparing::check(
         book,
         certificate,
         w,
@@ -32,10 +38,14 @@ fn descent_base(
         right,
         Behind::Nothing,
         theirs,
-        Subject::Plain(left, 0, 0),
+        Subject::Plain {
+            at: left,
+            i: 0,
+            j: 0,
+        },
     ) {
-        Found::Fault(n, p) => Found::Fault(n, p),
-        Found::Good(_) => checking::check(
+        Found::Fault { number: n, part: p } => Found::Fault { number: n, part: p },
+        Found::Good(_) => comparing::check(
             book,
             certificate,
             w,
@@ -59,12 +69,12 @@ fn descent_head(
     base: Instance,
     head: usize,
 ) -> Found
-    requires { ⌜ 8192 ≤ length (now w) ⌝ }
+    requires { ⌜ WORDS ≤ length (now w) ⌝ }
     ensures { λ r. ⌜ DescentHead (now (book .entry)) (now (certificate .entry)) left right base head (now (w .entry)) (now (w .exit)) r ⌝ }
 {
     match descent_base(book, certificate, w, left, right, base) {
-        Found::Fault(n, p) => Found::Fault(n, p),
-        Found::Good(_) => checking::check(
+        Found::Fault { number: n, part: p } => Found::Fault { number: n, part: p },
+        Found::Good(_) => comparing::check(
             book,
             certificate,
             w,
@@ -73,7 +83,11 @@ fn descent_head(
             right,
             Behind::Nothing,
             Subject::Call(head),
-            Subject::Plain(left, 1, 1),
+            Subject::Plain {
+                at: left,
+                i: 1,
+                j: 1,
+            },
         ),
     }
 }
@@ -88,12 +102,12 @@ fn descent_call(
     base: Instance,
     head: usize,
 ) -> Found
-    requires { ⌜ 8192 ≤ length (now w) ⌝ }
+    requires { ⌜ WORDS ≤ length (now w) ⌝ }
     ensures { λ r. ⌜ DescentCall (now (book .entry)) (now (certificate .entry)) left right base head (now (w .entry)) (now (w .exit)) r ⌝ }
 {
     match descent_head(book, certificate, w, left, right, base, head) {
-        Found::Fault(n, p) => Found::Fault(n, p),
-        Found::Good(call) => checking::check(
+        Found::Fault { number: n, part: p } => Found::Fault { number: n, part: p },
+        Found::Good(call) => comparing::check(
             book,
             certificate,
             w,
@@ -102,17 +116,21 @@ fn descent_call(
             right,
             Behind::Nothing,
             Subject::Call(call),
-            Subject::Plain(left, 1, 0),
+            Subject::Plain {
+                at: left,
+                i: 1,
+                j: 0,
+            },
         ),
     }
 }
 
 // Part 4 of a descent, which ends at a bit: no sides are compared there.
 fn level_right(book: &[u8], certificate: &[u8], w: &mut [u64], right: usize, at: usize) -> Found
-    requires { ⌜ 8192 ≤ length (now w) ⌝ }
+    requires { ⌜ WORDS ≤ length (now w) ⌝ }
     ensures { λ r. ⌜ LevelRight (now (book .entry)) (now (certificate .entry)) right at (now (w .entry)) (now (w .exit)) r ⌝ }
 {
-    match checking::check(
+    match comparing::check(
         book,
         certificate,
         w,
@@ -123,7 +141,7 @@ fn level_right(book: &[u8], certificate: &[u8], w: &mut [u64], right: usize, at:
         Subject::Empty,
         Subject::Empty,
     ) {
-        Found::Fault(n, p) => Found::Fault(n, p),
+        Found::Fault { number: n, part: p } => Found::Fault { number: n, part: p },
         Found::Good(_) => Found::Good(at),
     }
 }
@@ -139,12 +157,12 @@ fn descent_by(
     rule: usize,
     at: usize,
 ) -> Found
-    requires { ⌜ 8192 ≤ length (now w) ⌝ }
+    requires { ⌜ WORDS ≤ length (now w) ⌝ }
     ensures { λ r. ⌜ DescentBy (now (book .entry)) (now (certificate .entry)) left right base rule at (now (w .entry)) (now (w .exit)) r ⌝ }
 {
-    let calls = checking::field(book, 4, rule);
+    let calls = instances::field(book, 4, rule);
     match descent_call(book, certificate, w, left, right, base, calls.at) {
-        Found::Fault(n, p) => Found::Fault(n, p),
+        Found::Fault { number: n, part: p } => Found::Fault { number: n, part: p },
         Found::Good(_) => level_right(book, certificate, w, right, at),
     }
 }
@@ -158,13 +176,13 @@ fn descent_on(
     right: usize,
     base: Instance,
 ) -> Found
-    requires { ⌜ 8192 ≤ length (now w) ⌝ }
+    requires { ⌜ WORDS ≤ length (now w) ⌝ }
     ensures { λ r. ⌜ DescentOn (now (book .entry)) (now (certificate .entry)) left right base (now (w .entry)) (now (w .exit)) r ⌝ }
 {
-    let rule = checking::field(certificate, 8, base.end);
+    let rule = instances::field(certificate, 8, base.end);
     let k = rule.value as usize;
-    let begin = checking::noted(w, k);
-    let end = fillings::list_filling(book, certificate, w, 832, rule.at);
+    let begin = begins::noted(w, k);
+    let end = instances::fillings::list_filling(book, certificate, w, OWN, rule.at);
     descent_by(book, certificate, w, left, right, base, begin, end)
 }
 
@@ -177,9 +195,9 @@ pub fn descent(
     right: usize,
     at: usize,
 ) -> Found
-    requires { ⌜ 8192 ≤ length (now w) ⌝ }
+    requires { ⌜ WORDS ≤ length (now w) ⌝ }
     ensures { λ r. ⌜ DescentAt (now (book .entry)) (now (certificate .entry)) left right at (now (w .entry)) (now (w .exit)) r ⌝ }
 {
-    let base = checking::read_use(book, certificate, w, at);
+    let base = begins::read_use(book, certificate, w, at);
     descent_on(book, certificate, w, left, right, base)
 }

@@ -1,59 +1,85 @@
--- A walk under way: the nodes met so far, with those that the rest of the walk meets, are the whole walk's.
-use Prim.Native.Nat.{ℕ, suc, _+_, _*_, _-_, _≤_, _<_, _^_}
-use mathlib.Core.Path.{_≡_, refl, sym, ap, _∙_}
+-- A walk under way: the nodes met so far, with those that the rest of the walk meets, are the whole walk's. One law for every loop over a term:
+-- what each keeps of the nodes met so far, `P`, is its own.
+use Prim.Native.Nat.{ℕ, suc, _-_, _<_}
+use mathlib.Core.Path.{_≡_, refl, sym, subst, ap, _∙_}
 use mathlib.Core.List.{List, [], _++_, append-assoc, append-nil}
 use native.Mathlib.Omega.{arith}
 use Rattle.patterns.specs.Term.{Node}
 use Rattle.patterns.specs.First.{Exp}
 use Rattle.instances.specs.Headers.{headerAt}
-use Rattle.instances.specs.Walks.{single, onward, Next, start, Walk, ahead, stopped, walk, walked}
+use Rattle.instances.specs.Walks.{single, onward, Next, start, Walk, ahead, walk, Within, Stepped, Steps, walked}
 use Rattle.instances.specs.Instances.{Skips}
 use Rattle.instances.specs.declared.Header.{Header}
 use Rattle.instances.specs.declared.Place.{Place}
+use Rattle.instances.specs.declared.Turn.{Turn}
+use Rattle.instances.specs.declared.Turn.the-variants.{Node as Met, Over}
 use Rattle.instances.proofs.Walks.{walk-step, walk-none, walked-term}
 
-pub record Going (book s : List ℕ) (at : ℕ) (met : List (Node Exp)) (left : ℕ) (p : Place) : Type 0 where
-  pub whole : walked book s at ≡ ahead met (walk book s left p)
-  pub few : p .pending + 65536 * left ≤ 2 ^ 32
+-- ---- what a step answers
 
-module _ (book s : List ℕ) (at : ℕ) where
-  pub going-start : Going book s at [] 256 (start at)
-  unfolding walked
-  going-start = record { whole = refl; few = omega arith }
+module _ (book s : List ℕ) (left : ℕ) (p : Place) where
+  pub step-spent : left ≡ 0 → Steps book s left p Over
+  unfolding Stepped walk
+  step-spent z = record { is = ap (λ k. walk book s k p) z }
 
-  abbrev Ended : List (Node Exp) → Place → Type 0
-  Ended met p = walked book s at ≡ record { met = met; end = p .at }
+  pub step-done : p .pending ≡ 0 → Steps book s left p Over
+  unfolding Stepped
+  step-done z = record { is = walk-none book s left p z }
 
-  module _ (met : List (Node Exp)) (left : ℕ) (p : Place) (g : Going book s at met left p) where
-    ended : walk book s left p ≡ stopped p → Ended met p
-    ended e = g .whole ∙ ap (ahead met) e ∙ ap (λ ns. record { met = ns; end = p .at }) (append-nil met)
-
-    pub going-done : p .pending ≡ 0 → Ended met p
-    going-done h = ended (walk-none book s left p h)
-
-    pub going-out : left ≤ 0 → Ended met p
-    unfolding walk
-    going-out h =
-        let none : left ≡ 0 = omega arith in
-        ended (ap (λ k. walk book s k p) none)
-
-    module _ (h : Header) (l : 0 < left) (some : ¬ (p .pending ≡ 0)) (e : h ≡ headerAt book s (p .at)) where
-      -- one node more
-      pub going-more : walked book s at ≡ ahead (met ++ single h) (walk book s (left - 1) (onward (p .pending) h))
-      going-more =
-          let down : left ≡ suc (left - 1) = omega arith in
-          g .whole
-          ∙ ap (λ k. ahead met (walk book s k p)) down
-          ∙ ap (ahead met) (walk-step book s (left - 1) p some)
-          ∙ ap (λ k. ahead met (ahead (single k) (walk book s (left - 1) (onward (p .pending) k)))) (sym e)
-          ∙ ap (λ ns. record { met = ns; end = walk book s (left - 1) (onward (p .pending) h) .end }) (sym (append-assoc met (single h) _))
-
-      pub going-on : (q : Place) → Next (p .pending) h q
-          → Going book s at (met ++ single h) (left - 1) q
-      going-on q k = record {
-        whole = going-more ∙ ap (λ r. ahead (met ++ single h) (walk book s (left - 1) r)) (sym (k .is));
-        few = omega (arith, g .few, k .few);
+  pub step-node : {h : Header} {q : Place} → ¬ (left ≡ 0) → ¬ (p .pending ≡ 0) → Within left p → h ≡ headerAt book s (p .at) → Next (p .pending) h q
+      → Steps book s left p (Met h q)
+  unfolding Stepped
+  step-node {h} {q} some more few e n =
+      let down : left ≡ suc (left - 1) = omega arith in
+      record {
+        is = (
+          omega arith,
+          omega (arith, n .few),
+          ap (λ k. walk book s k p) down
+              ∙ walk-step book s (left - 1) p more
+              ∙ ap (λ k. ahead (single k) (walk book s (left - 1) (onward (p .pending) k))) (sym e)
+              ∙ ap (λ k. ahead (single h) (walk book s (left - 1) k)) (sym (n .is)),
+        );
       }
+
+-- ---- a walk under way
+
+pub record Going (P : List (Node Exp) → Type 0) (book s : List ℕ) (at left : ℕ) (p : Place) : Type 0 where
+  pub met : List (Node Exp)
+  pub whole : walked book s at ≡ ahead met (walk book s left p)
+  pub few : Within left p
+  pub holds : P met
+
+pub going-start : {P : List (Node Exp) → Type 0} (book s : List ℕ) (at : ℕ) → P [] → Going P book s at 256 (start at)
+unfolding walked
+going-start book s at h = record { met = []; whole = refl; few = omega arith; holds = h }
+
+module _ {P : List (Node Exp) → Type 0} {book s : List ℕ} {at left : ℕ} {p : Place} (g : Going P book s at left p) {r : Turn} (k : Steps book s left p r) where
+  -- it is over: these are its nodes
+  pub going-over : r ≡ Over → walked book s at ≡ record { met = g .met; end = p .at }
+  unfolding Stepped
+  going-over e =
+      g .whole
+      ∙ ap (ahead (g .met)) (subst (Stepped book s left p) e (k .is))
+      ∙ ap (λ ns. record { met = ns; end = p .at }) (append-nil (g .met))
+
+  module _ {h : Header} {q : Place} (e : r ≡ Met h q) where
+    stepped : (0 < left) × Within (left - 1) q × (walk book s left p ≡ ahead (single h) (walk book s (left - 1) q))
+    unfolding Stepped
+    stepped = subst (Stepped book s left p) e (k .is)
+
+    pub going-left : 0 < left
+    going-left = stepped .0
+
+    -- one node more
+    pub going-more : walked book s at ≡ ahead (g .met ++ single h) (walk book s (left - 1) q)
+    going-more =
+        g .whole
+        ∙ ap (ahead (g .met)) (stepped .2)
+        ∙ ap (λ ns. record { met = ns; end = walk book s (left - 1) q .end }) (sym (append-assoc (g .met) (single h) _))
+
+    pub going-on : {Q : List (Node Exp) → Type 0} → Q (g .met ++ single h) → Going Q book s at (left - 1) q
+    going-on holds = record { met = g .met ++ single h; whole = going-more; few = stepped .1; holds = holds }
 
 -- ---- where the term ends
 

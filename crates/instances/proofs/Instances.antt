@@ -11,6 +11,7 @@ use Rattle.patterns.specs.Term.{Filling, fill, Node, nvar, nfun, npow, nodes}
 use Rattle.patterns.specs.Edition.{reindex}
 use Rattle.patterns.specs.First.{Exp, Pattern, shift, one}
 use Rattle.patterns.specs.Push.{retag, expand}
+use Rattle.table.specs.Places.{SIDE}
 use Rattle.table.specs.Nodes.{stack, load}
 use Rattle.table.specs.Sides.{Room, Kept, Holds, Took}
 use Rattle.table.specs.Marks.{Built}
@@ -20,16 +21,18 @@ use Rattle.table.proofs.Marks.{built-instance}
 use Rattle.instances.specs.Lying.{TermAt}
 use Rattle.instances.specs.Fillings.{entry, Entry, unlisted, listed, Fills}
 use Rattle.instances.specs.Instances.{Stored, Few, Builds}
-use Rattle.instances.specs.Walks.{single, Walk, walked}
+use Rattle.instances.specs.Walks.{single, Walk, Steps, walked}
 use Rattle.instances.specs.Filled.{wordOf, filled}
 use Rattle.instances.specs.declared.Header.{Header}
 use Rattle.instances.specs.declared.Header.the-variants.{Variable, Symbol, Power, Missing}
 use Rattle.instances.specs.declared.Place.{Place}
+use Rattle.instances.specs.declared.Turn.{Turn}
+use Rattle.instances.specs.declared.Turn.the-variants.{Over}
 use Rattle.instances.specs.declared.Side.the-variants.{Done, Full}
 use Rattle.instances.proofs.Walks.{walked-term}
-use Rattle.instances.proofs.Goings.{going-done, going-out}
+use Rattle.instances.proofs.Goings.{going-over}
 use Rattle.instances.proofs.Loads.{filled-light}
-use Rattle.instances.proofs.Pushings.{took-as, Pushing, pushing-done, pushing-out, pushing-room, pushing-light}
+use Rattle.instances.proofs.Pushings.{took-as, Pushing, pushing-over, pushing-room, pushing-light}
 
 -- ---- one node of an instance
 
@@ -59,7 +62,7 @@ module _ (book cert w : List ℕ) (fills i j : ℕ) where
     step-listed z t = took-as n (ap (λ k. walked book cert (k - 1) .met) e ∙ term-only h (λ q. z (e ∙ q))) t
 
 -- the table of a filling that lies below a side is not changed by what is pushed there
-entry-kept : (w v : List ℕ) (fills base x : ℕ) → fills + 64 ≤ base → Kept base 3072 w v → entry v fills x ≡ entry w fills x
+entry-kept : (w v : List ℕ) (fills base x : ℕ) → fills + 64 ≤ base → Kept base SIDE w v → entry v fills x ≡ entry w fills x
 unfolding entry
 entry-kept w v fills base x h k = go (decLt x 64)
   where
@@ -67,7 +70,7 @@ entry-kept w v fills base x h k = go (decLt x 64)
     go (yes l) = rw (lt-ltb x 64 l) (k .low (fills + x) (omega arith))
     go (no l) = rw (le-ltb x 64 (omega arith))
 
-filled-kept : (book cert w v : List ℕ) (fills base i j : ℕ) (h : Header) → fills + 64 ≤ base → Kept base 3072 w v
+filled-kept : (book cert w v : List ℕ) (fills base i j : ℕ) (h : Header) → fills + 64 ≤ base → Kept base SIDE w v
     → flatMap (filled book cert v fills i j) (single h) ≡ flatMap (filled book cert w fills i j) (single h)
 unfolding single flatMap filled
 filled-kept book cert w v fills base i j (Variable x c) h k = rw (entry-kept w v fills base x h k)
@@ -75,7 +78,7 @@ filled-kept book cert w v fills base i j (Symbol f n c) h k = refl
 filled-kept book cert w v fills base i j (Power s a b c) h k = refl
 filled-kept book cert w v fills base i j Missing h k = refl
 
-pub step-filled : {base : ℕ} {w v : List ℕ} {r : Pushed} (book cert w₀ : List ℕ) (fills i j n : ℕ) (h : Header) → fills + 64 ≤ base → Kept base 3072 w₀ w
+pub step-filled : {base : ℕ} {w v : List ℕ} {r : Pushed} (book cert w₀ : List ℕ) (fills i j n : ℕ) (h : Header) → fills + 64 ≤ base → Kept base SIDE w₀ w
     → Took base n (flatMap (filled book cert w fills i j) (single h)) w v r
     → Took base n (flatMap (filled book cert w₀ fills i j) (single h)) w v r
 step-filled {base} {w} {v} {r} book cert w₀ fills i j n h below k t = took-as n (filled-kept book cert w₀ w fills base i j h below k) t
@@ -127,16 +130,13 @@ module _ (book cert w : List ℕ) (fills i j : ℕ) where
       kept = p .kept;
     }
 
-    module _ (n left : ℕ) (p : Place) (g : Pushing (filled book cert w fills i j) book s at base 0 w v n left p) where
-      pub built-done : p .pending ≡ 0 → Builds book s cert base at i j fills w v (Done n (p .at))
-      built-done h = finished n (p .at) _ (going-done book s at (g .met) left p (g .going) h) (pushing-done _ book s at base 0 w v n left p g h)
-
-      pub built-out : left ≤ 0 → Builds book s cert base at i j fills w v (Done n (p .at))
-      built-out h = finished n (p .at) _ (going-out book s at (g .met) left p (g .going) h) (pushing-out _ book s at base 0 w v n left p g h)
+    pub built-over : {n left : ℕ} {p : Place} → Pushing (filled book cert w fills i j) book s at base 0 w v n left p → {r : Turn} → Steps book s left p r
+        → r ≡ Over → Builds book s cert base at i j fills w v (Done n (p .at))
+    built-over {n} {left} {p} g k e = finished n (p .at) _ (going-over g k e) (pushing-over _ book s at base 0 w v n left p g k e)
 
     -- the next node fits
     pub building-fits : (n left : ℕ) (p : Place) → Pushing (filled book cert w fills i j) book s at base 0 w v n left p
-        → (base + 3072 ≤ length w) × (fills + 64 ≤ base) → i < 65536 → j < 65536
+        → (base + SIDE ≤ length w) × (fills + 64 ≤ base) → i < 65536 → j < 65536
         → Room base n v × ((load (stack v base n) ≤ 2 ^ 60) × (fills + 64 ≤ length v))
     building-fits n left p g before small-i small-j =
         let room = pushing-room _ book s at base 0 w v n left p g (record { within = before .0; few = omega arith }) in

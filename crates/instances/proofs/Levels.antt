@@ -1,25 +1,26 @@
 -- Whether a = 0 in every power of a term is told by its nodes, and the walk asks each of them.
-use Prim.Native.Nat.{ℕ, _-_, _≤_, _<_}
+use Prim.Native.Nat.{ℕ, _-_}
 use mathlib.Core.Path.{_≡_, refl, sym, subst, ap, _∙_}
 use mathlib.Core.Bool.{Bool, true, false, not, false≢true}
-use mathlib.Core.List.{List, [], _++_}
+use mathlib.Core.List.{List, _++_}
 use lib.Dec.{eqb}
 use borrow.Author.Tests.{eqb-true, eqb-false}
 use Rattle.bits.specs.declared.Cursor.{Cursor}
-use Rattle.patterns.specs.Term.{Terms, var, fun, pow, nil, cons, All, All*, Node, nodes, nodes*}
+use Rattle.patterns.specs.Term.{Terms, var, fun, pow, nil, cons, All, All*, nodes, nodes*}
 use Rattle.patterns.specs.First.{Exp, Pattern, Still}
 use Rattle.patterns.specs.Every.{Every}
 use Rattle.patterns.proofs.Every.{every-first, every-rest, every-append}
 use Rattle.table.specs.Answer.{Says}
 use Rattle.instances.specs.Lying.{TermAt}
-use Rattle.instances.specs.Headers.{headerAt}
-use Rattle.instances.specs.Walks.{single, Next, start, Walk, walked, Calm}
+use Rattle.instances.specs.Walks.{single, start, Walk, Steps, walked, Calm}
 use Rattle.instances.specs.Instances.{Levels}
 use Rattle.instances.specs.declared.Header.{Header}
 use Rattle.instances.specs.declared.Header.the-variants.{Variable, Symbol, Power, Missing}
 use Rattle.instances.specs.declared.Place.{Place}
+use Rattle.instances.specs.declared.Turn.{Turn}
+use Rattle.instances.specs.declared.Turn.the-variants.{Node as Met, Over}
 use Rattle.instances.proofs.Walks.{walked-term}
-use Rattle.instances.proofs.Goings.{Going, going-start, going-done, going-out, going-more, going-on}
+use Rattle.instances.proofs.Goings.{Going, going-start, going-over, going-more, going-on}
 
 mutual
   unfolding All nodes Every Calm
@@ -71,45 +72,31 @@ module _ (h : Header) where
 
 -- ---- the walk that asks each node
 
-pub record Calming (book s : List ℕ) (at left : ℕ) (p : Place) : Type 0 where
-  pub met : List (Node Exp)
-  pub going : Going book s at met left p
-  pub calm : Every Calm met
+abbrev pub Calming : List ℕ → List ℕ → ℕ → ℕ → Place → Type 0
+Calming book s at left p = Going (Every Calm) book s at left p
 
-module _ (book s : List ℕ) (at : ℕ) where
-  pub calming-start : Calming book s at 256 (start at)
-  unfolding Every
-  calming-start = record { met = []; going = going-start book s at; calm = tt }
+pub calming-start : (book s : List ℕ) (at : ℕ) → Calming book s at 256 (start at)
+unfolding Every
+calming-start book s at = going-start book s at tt
 
-  met-nodes : (v : Walk) → walked book s at ≡ v → (t : Pattern) → TermAt book s at t → v .met ≡ nodes t
-  met-nodes v e t h = ap (λ (v : Walk). v .met) (sym e ∙ walked-term book s at t h)
+met-nodes : {book s : List ℕ} {at : ℕ} (v : Walk) → walked book s at ≡ v → (t : Pattern) → TermAt book s at t → v .met ≡ nodes t
+met-nodes {book} {s} {at} v e t h = ap (λ (v : Walk). v .met) (sym e ∙ walked-term book s at t h)
 
-  all-met : (v : Walk) → walked book s at ≡ v → Every Calm (v .met) → Levels book s at true
+module _ {book s : List ℕ} {at left : ℕ} {p : Place} (g : Calming book s at left p) {r : Turn} (k : Steps book s left p r) where
+  pub calming-over : r ≡ Over → Levels book s at true
   unfolding Says
-  all-met v e c = record { told = λ t h. calm-all t (subst (Every Calm) (met-nodes v e t h) c) }
+  calming-over e = record { told = λ t h. calm-all t (subst (Every Calm) (met-nodes _ (going-over g k e) t h) (g .holds)) }
 
-  module _ (left : ℕ) (p : Place) (c : Calming book s at left p) where
-    pub calming-done : p .pending ≡ 0 → Levels book s at true
-    calming-done h = all-met _ (going-done book s at (c .met) left p (c .going) h) (c .calm)
+  module _ {h : Header} {q : Place} (e : r ≡ Met h q) where
+    pub calming-not : (b : Bool) → Says (Every Calm (single h)) b → not b ≡ true → Levels book s at false
+    unfolding Says
+    calming-not true so z = absurd (false≢true z)
+    calming-not false wild z = record {
+      told = λ t l a. wild (every-rest Calm (g .met) (single h) (every-first Calm (g .met ++ single h) _
+          (subst (Every Calm) (sym (met-nodes _ (going-more g k e) t l)) (all-calm t a))));
+    }
 
-    pub calming-out : left ≤ 0 → Levels book s at true
-    calming-out h = all-met _ (going-out book s at (c .met) left p (c .going) h) (c .calm)
-
-    module _ (h : Header) (l : 0 < left) (some : ¬ (p .pending ≡ 0)) (e : h ≡ headerAt book s (p .at)) where
-      pub calming-not : (r : Bool) → Says (Every Calm (single h)) r → not r ≡ true → Levels book s at false
-      unfolding Says
-      calming-not true so q = absurd (false≢true q)
-      calming-not false wild q = record {
-        told = λ t k a. wild (every-rest Calm (c .met) (single h) (every-first Calm (c .met ++ single h) _
-            (subst (Every Calm) (sym (met-nodes _ (going-more book s at (c .met) left p (c .going) h l some e) t k)) (all-calm t a))));
-      }
-
-      pub calming-on : (q : Place) (r : Bool) → Says (Every Calm (single h)) r → not r ≡ false
-          → Next (p .pending) h q → Calming book s at (left - 1) q
-      unfolding Says
-      calming-on q true so z k = record {
-        met = c .met ++ single h;
-        going = going-on book s at (c .met) left p (c .going) h l some e q k;
-        calm = every-append Calm (c .met) (single h) (c .calm) so;
-      }
-      calming-on q false wild z k = absurd (false≢true (sym z))
+    pub calming-on : (b : Bool) → Says (Every Calm (single h)) b → not b ≡ false → Calming book s at (left - 1) q
+    unfolding Says
+    calming-on true so z = going-on g k e (every-append Calm (g .met) (single h) (g .holds) so)
+    calming-on false wild z = absurd (false≢true (sym z))

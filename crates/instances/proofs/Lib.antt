@@ -1,5 +1,6 @@
 -- The laws of packed terms and of the walks over them, each above the one before.
 pub mod Lying
+pub mod Taking
 pub mod Headers
 pub mod Walks
 pub mod Goings
@@ -8,3 +9,7 @@ pub mod Loads
 pub mod Pushings
 pub mod Instances
 pub mod Terms
+pub mod Entries
+pub mod Forgetting
+pub mod Noting
+pub mod Listings

@@ -16,13 +16,15 @@ use Rattle.table.specs.declared.Pushed.the-variants.{Count, NoRoom}
 use Rattle.table.proofs.Loads.{load-cons, load-append}
 use Rattle.table.proofs.Sides.{took-none, took-then, took-stop, took-room, took-load}
 use Rattle.bits.specs.declared.Cursor.{Cursor}
-use Rattle.instances.specs.Headers.{headerAt}
-use Rattle.instances.specs.Walks.{single, onward, Next, start, Walk, walk, walked}
+use Rattle.table.specs.Places.{NODES}
+use Rattle.instances.specs.Walks.{single, start, Walk, walk, Steps, walked}
 use Rattle.instances.specs.Filled.{itself}
 use Rattle.instances.specs.declared.Header.{Header}
 use Rattle.instances.specs.declared.Header.the-variants.{Variable, Symbol, Power, Missing}
 use Rattle.instances.specs.declared.Place.{Place}
-use Rattle.instances.proofs.Goings.{Going, going-start, going-done, going-out, going-more, going-on}
+use Rattle.instances.specs.declared.Turn.{Turn}
+use Rattle.instances.specs.declared.Turn.the-variants.{Node as Met, Over}
+use Rattle.instances.proofs.Goings.{Going, going-start, going-over, going-more, going-on}
 use Rattle.instances.proofs.Loads.{flatMap-append, each-itself, spelled-light}
 
 pub took-as : {base : ℕ} {ms ks : List (Node Exp)} {w v : List ℕ} {r : Pushed} (n : ℕ) → ms ≡ ks → Took base n ms w v r → Took base n ks w v r
@@ -58,7 +60,7 @@ module _ (base n i j : ℕ) (w v : List ℕ) (r : Pushed) (h : Header) where
   unfolding retag single
   node-power s a b c m e d t = rw e (took-as n (ap (λ k. k ∷ []) (d .node)) t)
 
-pub node-missing : (base n i j : ℕ) (w : List ℕ) (h : Header) → n ≤ 1024 → h ≡ Missing → Took base n (retag (shift (i, j)) (single h)) w w (Count n)
+pub node-missing : (base n i j : ℕ) (w : List ℕ) (h : Header) → n ≤ NODES → h ≡ Missing → Took base n (retag (shift (i, j)) (single h)) w w (Count n)
 unfolding retag single
 node-missing base n i j w h few e = rw e (took-none base n w few)
 
@@ -76,62 +78,52 @@ step-plain n h t = took-as n (plain h) t
 
 -- ---- the walk
 
-pub record Pushing (f : Node Exp → List (Node Exp)) (book s : List ℕ) (at base count : ℕ) (w₀ w : List ℕ) (n left : ℕ) (p : Place) : Type 0 where
-  pub met : List (Node Exp)
-  pub going : Going book s at met left p
-  pub took : Took base count (flatMap f met) w₀ w (Count n)
+-- what the nodes met so far give was pushed
+abbrev pub Pushing : (Node Exp → List (Node Exp)) → List ℕ → List ℕ → ℕ → ℕ → ℕ → List ℕ → List ℕ → ℕ → ℕ → Place → Type 0
+Pushing f book s at base count w₀ w n left p = Going (λ met. Took base count (flatMap f met) w₀ w (Count n)) book s at left p
 
 -- what the whole walk gives
 abbrev pub given : (Node Exp → List (Node Exp)) → List ℕ → List ℕ → ℕ → List (Node Exp)
 given f book s at = flatMap f (walked book s at .met)
 
 module _ (f : Node Exp → List (Node Exp)) (book s : List ℕ) (at base count : ℕ) (w₀ : List ℕ) where
-  pub pushing-start : count ≤ 1024 → Pushing f book s at base count w₀ w₀ count 256 (start at)
+  pub pushing-start : count ≤ NODES → Pushing f book s at base count w₀ w₀ count 256 (start at)
   unfolding flatMap
-  pushing-start few = record { met = []; going = going-start book s at; took = took-none base count w₀ few }
+  pushing-start few = going-start book s at (took-none base count w₀ few)
 
   met-of : (v : Walk) → walked book s at ≡ v → flatMap f (v .met) ≡ given f book s at
   met-of v e = ap (λ (u : Walk). flatMap f (u .met)) (sym e)
 
   module _ (w : List ℕ) (n left : ℕ) (p : Place) (g : Pushing f book s at base count w₀ w n left p) where
-    pub pushing-done : p .pending ≡ 0 → Took base count (given f book s at) w₀ w (Count n)
-    pushing-done h = took-as count (met-of _ (going-done book s at (g .met) left p (g .going) h)) (g .took)
-
-    pub pushing-out : left ≤ 0 → Took base count (given f book s at) w₀ w (Count n)
-    pushing-out h = took-as count (met-of _ (going-out book s at (g .met) left p (g .going) h)) (g .took)
-
     pub pushing-room : Room base count w₀ → Room base n w
-    pushing-room room = took-room base count n (flatMap f (g .met)) w₀ w room (g .took)
+    pushing-room room = took-room base count n (flatMap f (g .met)) w₀ w room (g .holds)
 
     pub pushing-light : (a b : ℕ) → load (stack w₀ base count) ≤ a → load (given f book s at) ≤ b → load (stack w base n) ≤ a + b
     pushing-light a b x y =
         let rest = walk book s left p .met in
-        let e : given f book s at ≡ flatMap f (g .met) ++ flatMap f rest = sym (met-of _ (g .going .whole)) ∙ flatMap-append f (g .met) rest in
-        omega (arith, took-load base count n (flatMap f (g .met)) w₀ w (g .took), ap load e, load-append (flatMap f (g .met)) (flatMap f rest))
+        let e : given f book s at ≡ flatMap f (g .met) ++ flatMap f rest = sym (met-of _ (g .whole)) ∙ flatMap-append f (g .met) rest in
+        omega (arith, took-load base count n (flatMap f (g .met)) w₀ w (g .holds), ap load e, load-append (flatMap f (g .met)) (flatMap f rest))
 
-    -- one node more
-    module _ (h : Header) (l : 0 < left) (some : ¬ (p .pending ≡ 0)) (e : h ≡ headerAt book s (p .at)) (v : List ℕ) (r : Pushed)
-        (t : Took base n (flatMap f (single h)) w v r) where
-      took-more : Took base count (flatMap f (g .met ++ single h)) w₀ v r
-      took-more =
-          took-as count (sym (flatMap-append f (g .met) (single h)))
-          (took-then base count n (flatMap f (g .met)) (flatMap f (single h)) w₀ w v r (g .took) t)
+    module _ {r : Turn} (k : Steps book s left p r) where
+      pub pushing-over : r ≡ Over → Took base count (given f book s at) w₀ w (Count n)
+      pushing-over e = took-as count (met-of _ (going-over g k e)) (g .holds)
 
-      pub pushing-full : r ≡ NoRoom → Took base count (given f book s at) w₀ v NoRoom
-      pushing-full no-room =
-          let rest = walk book s (left - 1) (onward (p .pending) h) .met in
-          took-as count
-          (sym (flatMap-append f (g .met ++ single h) rest) ∙ met-of _ (going-more book s at (g .met) left p (g .going) h l some e))
-          (took-stop base count (flatMap f (g .met ++ single h)) (flatMap f rest) w₀ v
-          (subst (λ q. Took base count (flatMap f (g .met ++ single h)) w₀ v q) no-room took-more))
+      -- one node more
+      module _ {h : Header} {q : Place} (e : r ≡ Met h q) {v : List ℕ} {u : Pushed} (t : Took base n (flatMap f (single h)) w v u) where
+        took-more : Took base count (flatMap f (g .met ++ single h)) w₀ v u
+        took-more =
+            took-as count (sym (flatMap-append f (g .met) (single h)))
+            (took-then base count n (flatMap f (g .met)) (flatMap f (single h)) w₀ w v u (g .holds) t)
 
-      pub pushing-on : (k : ℕ) (q : Place) → r ≡ Count k → Next (p .pending) h q
-          → Pushing f book s at base count w₀ v k (left - 1) q
-      pushing-on k q counted onto = record {
-        met = g .met ++ single h;
-        going = going-on book s at (g .met) left p (g .going) h l some e q onto;
-        took = subst (λ u. Took base count (flatMap f (g .met ++ single h)) w₀ v u) counted took-more;
-      }
+        pub pushing-full : u ≡ NoRoom → Took base count (given f book s at) w₀ v NoRoom
+        pushing-full no-room =
+            let rest = walk book s (left - 1) q .met in
+            took-as count (sym (flatMap-append f (g .met ++ single h) rest) ∙ met-of _ (going-more g k e))
+            (took-stop base count (flatMap f (g .met ++ single h)) (flatMap f rest) w₀ v
+            (subst (λ o. Took base count (flatMap f (g .met ++ single h)) w₀ v o) no-room took-more))
+
+        pub pushing-on : {m : ℕ} → u ≡ Count m → Pushing f book s at base count w₀ v m (left - 1) q
+        pushing-on counted = going-on g k e (subst (λ o. Took base count (flatMap f (g .met ++ single h)) w₀ v o) counted took-more)
 
 -- ---- as it stands
 

@@ -8,6 +8,7 @@ use Rattle.patterns.specs.Term.{Filling, fill, All}
 use Rattle.patterns.specs.Edition.{reindex}
 use Rattle.patterns.specs.Certificate.{Mark}
 use Rattle.patterns.specs.First.{Exp, Pattern, Still, one}
+use Rattle.table.specs.Places.{SIDE, NODES}
 use Rattle.table.specs.Sides.{Kept}
 use Rattle.table.specs.Marks.{Built}
 use Rattle.table.specs.Answer.{Says}
@@ -31,7 +32,7 @@ Stored base m end after (Done n e) = Built base m after (Count n) × (e ≡ end)
 Stored base m end after Full = Built base m after NoRoom
 
 unfoldable pub Few : Side → Type 0
-Few (Done n e) = n ≤ 1024
+Few (Done n e) = n ≤ NODES
 Few Full = Unit {0}
 
 -- 01: "An instance is a term reindexed first and then filled; the filling's own terms are not reindexed."
@@ -39,4 +40,4 @@ pub record Builds (book s cert : List ℕ) (base at i j fills : ℕ) (w after : 
   pub told : (t : Pattern) (θ : Filling Exp) → TermAt book s at t → Fills book cert w fills θ
       → Stored base (some (fill θ (reindex one (i, j) t))) (behind at t) after r
   pub few : Few r
-  pub kept : Kept base 3072 w after
+  pub kept : Kept base SIDE w after

@@ -1,5 +1,5 @@
 -- The walk over a packed term, node after node: the nodes that it meets, and the bit where it ends.
-use Prim.Native.Nat.{ℕ, zero, suc, _+_, _-_, _≤_}
+use Prim.Native.Nat.{ℕ, zero, suc, _+_, _*_, _-_, _≤_, _<_, _^_}
 use mathlib.Core.Path.{_≡_}
 use mathlib.Core.List.{List, [], _∷_, _++_}
 use mathlib.Core.Bool.{cond}
@@ -10,6 +10,8 @@ use Rattle.instances.specs.Headers.{headerAt}
 use Rattle.instances.specs.declared.Header.{Header}
 use Rattle.instances.specs.declared.Header.the-variants.{Variable, Symbol, Power, Missing}
 use Rattle.instances.specs.declared.Place.{Place}
+use Rattle.instances.specs.declared.Turn.{Turn}
+use Rattle.instances.specs.declared.Turn.the-variants.{Node as Met, Over}
 
 -- the node that a header tells, none where it is missing
 unfoldable pub single : Header → List (Node Exp)
@@ -53,6 +55,18 @@ walk book s zero p = stopped p
 walk book s (suc left) p =
     cond (eqb (p .pending) 0) (stopped p)
     (ahead (single (headerAt book s (p .at))) (walk book s left (onward (p .pending) (headerAt book s (p .at)))))
+
+-- the count of terms to come stays far below what a number holds
+abbrev pub Within : ℕ → Place → Type 0
+Within left p = p .pending + 65536 * left ≤ 2 ^ 32
+
+-- one step of the walk from p on: it is over, or it meets a header and goes on behind it
+unfoldable pub Stepped : List ℕ → List ℕ → ℕ → Place → Turn → Type 0
+Stepped book s left p Over = walk book s left p ≡ stopped p
+Stepped book s left p (Met h q) = (0 < left) × Within (left - 1) q × (walk book s left p ≡ ahead (single h) (walk book s (left - 1) q))
+
+pub record Steps (book s : List ℕ) (left : ℕ) (p : Place) (r : Turn) : Type 0 where
+  pub is : Stepped book s left p r
 
 -- the walk over the term at a bit. 01: terms "have at most 256 nodes"
 unfoldable pub walked : List ℕ → List ℕ → ℕ → Walk

@@ -1,6 +1,10 @@
-// Terms that lie packed in a file: the walk over one, and the normal form of an instance built in one pass.
+// Terms that lie packed in a file: the walk over one, and the normal form of an instance built in one pass; fields and fillings there.
+pub mod fillings;
+mod nodes;
+
 use bits::Cursor;
 use bits::Field;
+use nodes::header_at;
 use table::Item;
 use table::Pushed;
 ghost use mathlib.Core.Path.{_≡_};
@@ -13,17 +17,36 @@ ghost use Rattle.patterns.specs.Push.{retag};
 ghost use Rattle.table.specs.Answer.{Says};
 ghost use Rattle.table.specs.Nodes.{stack, load};
 ghost use Rattle.table.specs.Sides.{Room, Took};
+ghost use Rattle.table.specs.Places.{SIDE};
+ghost use Rattle.instances.specs.Taking.{Takes};
 ghost use Rattle.instances.specs.Instances.{Skips, Levels, Builds};
-ghost use Rattle.instances.specs.Headers.{variableAt, symbolAt, powerAt, headerAt};
-ghost use Rattle.instances.specs.Walks.{single, Next, walked, Calm};
+ghost use Rattle.instances.specs.Walks.{single, Next, Within, Steps, walked, Calm};
 ghost use Rattle.instances.specs.Filled.{wordOf, filled};
+
+// A field, and the bit behind it.
+pub struct Read {
+    pub value: u16,
+    pub at: usize,
+}
 
 // The header of a node, with the cursor past it: a variable, a symbol with its arity, or a power of a symbol with a and b. It is missing where a field
 // runs past the end or the tag is 3.
 enum Header {
-    Variable(u16, Cursor),
-    Symbol(u16, u16, Cursor),
-    Power(u16, u16, u16, Cursor),
+    Variable {
+        variable: u16,
+        past: Cursor,
+    },
+    Symbol {
+        symbol: u16,
+        arity: u16,
+        past: Cursor,
+    },
+    Power {
+        symbol: u16,
+        a: u16,
+        b: u16,
+        past: Cursor,
+    },
     Missing,
 }
 
@@ -33,62 +56,27 @@ struct Place {
     pending: usize,
 }
 
+// A turn of a walk: the header that it meets, and the place behind that node; or the walk is over.
+enum Turn {
+    Node { header: Header, place: Place },
+    Over,
+}
+
 // A side of a comparison: how many nodes it has, and where the term behind it ends; or it has more than 1,024.
 pub enum Side {
-    Done(usize, usize),
+    Done { nodes: usize, end: usize },
     Full,
 }
 
-// A variable, behind its tag.
-fn variable(s: &[u8], c: Cursor) -> Header
-    ensures { λ r. ⌜ r ≡ variableAt (now (s .entry)) (c .at) ⌝ }
-{
-    match c.take(6, s) {
-        Field::Got(x, d) => Header::Variable(x, d),
-        Field::Past => Header::Missing,
-    }
-}
-
-// A symbol, behind its tag.
-fn symbol(book: &[u8], s: &[u8], c: Cursor) -> Header
-    ensures { λ r. ⌜ r ≡ symbolAt (now (book .entry)) (now (s .entry)) (c .at) ⌝ }
-{
-    let none = [0u16; 0];
-    match c.take(8, s) {
-        Field::Got(f, d) => Header::Symbol(f, terms::arity(book, &none, false, f), d),
-        Field::Past => Header::Missing,
-    }
-}
-
-// A power, behind its tag.
-fn power(s: &[u8], c: Cursor) -> Header
-    ensures { λ r. ⌜ r ≡ powerAt (now (s .entry)) (c .at) ⌝ }
-{
-    let Field::Got(f, d) = c.take(8, s) else {
-        return Header::Missing;
-    };
-    let Field::Got(a, e) = d.take(12, s) else {
-        return Header::Missing;
-    };
-    let Field::Got(b, g) = e.take(12, s) else {
-        return Header::Missing;
-    };
-    Header::Power(f, a, b, g)
-}
-
-// The header of the node at a bit.
-fn header_at(book: &[u8], s: &[u8], at: usize) -> Header
-    ensures { λ r. ⌜ r ≡ headerAt (now (book .entry)) (now (s .entry)) at ⌝ }
+// The field of w bits at a bit.
+pub fn field(s: &[u8], w: usize, at: usize) -> Read
+    requires { ⌜ w ≤ 16 ⌝ }
+    ensures { λ r. ⌜ Takes (now (s .entry)) w at r ⌝ }
 {
     let c = Cursor { at };
-    let Field::Got(tag, d) = c.take(2, s) else {
-        return Header::Missing;
-    };
-    match tag {
-        0 => variable(s, d),
-        1 => symbol(book, s, d),
-        2 => power(s, d),
-        _ => Header::Missing,
+    match c.take(w, s) {
+        Field::Past => Read { value: 0, at: 0 },
+        Field::Got(v, d) => Read { value: v, at: d.at },
     }
 }
 
@@ -98,17 +86,38 @@ fn next(header: Header, pending: usize) -> Place
     ensures { λ r. ⌜ Next pending header r ⌝ }
 {
     match header {
-        Header::Variable(_, c) => Place {
+        Header::Variable { past: c, .. } => Place {
             at: c.at,
             pending: pending - 1,
         },
-        Header::Symbol(_, n, c) => Place {
+        Header::Symbol {
+            arity: n,
+            past: c,
+            ..
+        } => Place {
             at: c.at,
             pending: pending - 1 + (n as usize),
         },
-        Header::Power(_, _, _, c) => Place { at: c.at, pending },
+        Header::Power { past: c, .. } => Place { at: c.at, pending },
         Header::Missing => Place { at: 0, pending: 0 },
     }
+}
+
+// One turn of a walk that meets at most `left` nodes more.
+fn step(book: &[u8], s: &[u8], p: Place, left: usize) -> Turn
+    requires { ⌜ Within left p ⌝ }
+    ensures { λ r. ⌜ Steps (now (book .entry)) (now (s .entry)) left p r ⌝ }
+{
+    let pending = p.pending;
+    if left == 0 {
+        return Turn::Over;
+    }
+    if pending == 0 {
+        return Turn::Over;
+    }
+    let header = header_at(book, s, p.at);
+    let place = next(header, pending);
+    Turn::Node { header, place }
 }
 
 // Where the term at a bit ends.
@@ -117,16 +126,13 @@ pub fn skip(book: &[u8], s: &[u8], at: usize) -> usize
 {
     let mut p = Place { at, pending: 1 };
     let mut left: usize = 256;
-    while left > 0 {
-        let pending = p.pending;
-        if pending == 0 {
+    loop {
+        let Turn::Node { place, .. } = step(book, s, p, left) else {
             return p.at;
-        }
-        let header = header_at(book, s, p.at);
-        p = next(header, pending);
+        };
+        p = place;
         left -= 1;
     }
-    p.at
 }
 
 // Whether a = 0 in a node.
@@ -134,9 +140,9 @@ fn calm(header: Header) -> bool
     ensures { λ r. ⌜ Says (Every Calm (single header)) r ⌝ }
 {
     match header {
-        Header::Variable(_, _) => true,
-        Header::Symbol(_, _, _) => true,
-        Header::Power(_, a, _, _) => a == 0,
+        Header::Variable { .. } => true,
+        Header::Symbol { .. } => true,
+        Header::Power { a, .. } => a == 0,
         Header::Missing => true,
     }
 }
@@ -147,19 +153,16 @@ pub fn level(book: &[u8], s: &[u8], at: usize) -> bool
 {
     let mut p = Place { at, pending: 1 };
     let mut left: usize = 256;
-    while left > 0 {
-        let pending = p.pending;
-        if pending == 0 {
+    loop {
+        let Turn::Node { header, place } = step(book, s, p, left) else {
             return true;
-        }
-        let header = header_at(book, s, p.at);
+        };
         if !calm(header) {
             return false;
         }
-        p = next(header, pending);
+        p = place;
         left -= 1;
     }
-    true
 }
 
 // A node, reindexed by (i, j).
@@ -169,9 +172,14 @@ fn push_node(w: &mut [u64], base: usize, n: usize, header: Header, i: u16, j: u1
     ensures { λ r. ⌜ Took base n (retag (shift (i, j)) (single header)) (now (w .entry)) (now (w .exit)) r ⌝ }
 {
     match header {
-        Header::Variable(x, _) => table::push(w, base, n, Item::Variable(x)),
-        Header::Symbol(f, _, _) => table::push(w, base, n, Item::Symbol(f)),
-        Header::Power(s, a, b, _) => table::push(w, base, n, table::reindexed(s, a, b, i, j)),
+        Header::Variable { variable: x, .. } => table::push(w, base, n, Item::Variable(x)),
+        Header::Symbol { symbol: f, .. } => table::push(w, base, n, Item::Symbol(f)),
+        Header::Power {
+            symbol: s,
+            a,
+            b,
+            ..
+        } => table::push(w, base, n, table::reindexed(s, a, b, i, j)),
         Header::Missing => Pushed::Count(n),
     }
 }
@@ -185,20 +193,17 @@ fn spell(book: &[u8], s: &[u8], w: &mut [u64], base: usize, count: usize, at: us
     let mut n = count;
     let mut p = Place { at, pending: 1 };
     let mut left: usize = 256;
-    while left > 0 {
-        let pending = p.pending;
-        if pending == 0 {
+    loop {
+        let Turn::Node { header, place } = step(book, s, p, left) else {
             return Pushed::Count(n);
-        }
-        let header = header_at(book, s, p.at);
+        };
         let Pushed::Count(k) = push_node(w, base, n, header, 1, 0) else {
             return Pushed::NoRoom;
         };
         n = k;
-        p = next(header, pending);
+        p = place;
         left -= 1;
     }
-    Pushed::Count(n)
 }
 
 // What the filling's table at `fills` has for a node: 0, or one more than the place of its term.
@@ -207,14 +212,14 @@ fn word_of(w: &[u64], fills: usize, header: Header) -> u64
     ensures { λ r. ⌜ r ≡ wordOf (now (w .entry)) fills header ⌝ }
 {
     match header {
-        Header::Variable(x, _) => {
+        Header::Variable { variable: x, .. } => {
             if x < 64 {
                 return w[fills + (x as usize)];
             }
             0
         }
-        Header::Symbol(_, _, _) => 0,
-        Header::Power(_, _, _, _) => 0,
+        Header::Symbol { .. } => 0,
+        Header::Power { .. } => 0,
         Header::Missing => 0,
     }
 }
@@ -255,25 +260,22 @@ pub fn build(
     j: u16,
     fills: usize,
 ) -> Side
-    requires { ⌜ (base + 3072 ≤ length (now w)) × (fills + 64 ≤ base) ⌝ }
+    requires { ⌜ (base + SIDE ≤ length (now w)) × (fills + 64 ≤ base) ⌝ }
     ensures { λ r. ⌜ Builds (now (book .entry)) (now (s .entry)) (now (certificate .entry)) base at i j fills (now (w .entry)) (now (w .exit)) r ⌝ }
 {
-    let mut n: usize = 0;
+    let mut nodes: usize = 0;
     let mut p = Place { at, pending: 1 };
     let mut left: usize = 256;
-    while left > 0 {
-        let pending = p.pending;
-        if pending == 0 {
-            return Side::Done(n, p.at);
-        }
-        let header = header_at(book, s, p.at);
-        let Pushed::Count(k) = push_filled(book, certificate, w, base, n, header, i, j, fills)
+    loop {
+        let Turn::Node { header, place } = step(book, s, p, left) else {
+            return Side::Done { nodes, end: p.at };
+        };
+        let Pushed::Count(k) = push_filled(book, certificate, w, base, nodes, header, i, j, fills)
         else {
             return Side::Full;
         };
-        n = k;
-        p = next(header, pending);
+        nodes = k;
+        p = place;
         left -= 1;
     }
-    Side::Done(n, p.at)
 }

@@ -15,20 +15,22 @@ use Rattle.patterns.specs.Certificate.{Claim, Line, Closing}
 use Rattle.patterns.specs.Judge.{line-checks, checks-from, checks, first-unmet, refuse, verdict, judge}
 use Rattle.grammar.specs.Listing.{line-fields, closing-fields, certificate-fields}
 use Rattle.grammar.specs.Limits.{LinesFit, ClosingFits, call-counts}
+use Rattle.table.specs.Places.{LEFTS, RIGHTS, EMPTY}
 use Rattle.verdicts.proofs.Parted.{parted-line}
 use Rattle.answers.specs.declared.Verdict.{Verdict as Ruling}
-use Rattle.checking.specs.declared.Read.{Read}
-use Rattle.checking.specs.declared.Found.{Found}
-use Rattle.checking.specs.declared.Found.the-variants.{Fault, Good}
+use Rattle.instances.specs.declared.Read.{Read}
+use Rattle.comparing.specs.declared.Found.{Found}
+use Rattle.comparing.specs.declared.Found.the-variants.{Fault, Good}
 use Rattle.instances.specs.Lying.{Lies}
-use Rattle.fillings.specs.Listings.{Forgets}
-use Rattle.checking.specs.Placed.{Takes, ClaimAt, Indexes}
-use Rattle.checking.specs.Known.{Known}
+use Rattle.instances.specs.Listings.{Forgets}
+use Rattle.begins.specs.Placed.{ClaimAt, Indexes}
+use Rattle.instances.specs.Taking.{Takes}
+use Rattle.begins.specs.Known.{Known}
 use Rattle.lines.specs.Certificates.{LineAt, ClosingAt, LinesAt, Prepares, JudgesLines}
 use Rattle.instances.proofs.Lying.{lies-front, lies-back}
-use Rattle.checking.proofs.Using.{rest-at}
-use Rattle.checking.proofs.Frames.{entry-above}
-use Rattle.checking.proofs.Finding.{at-fault, at-good}
+use Rattle.instances.proofs.Taking.{rest-at}
+use Rattle.begins.proofs.Frames.{entry-above}
+use Rattle.comparing.proofs.Finding.{at-fault, at-good}
 use Rattle.lines.proofs.Claims.{length-more}
 use Rattle.lines.proofs.Placing.{fault-carried, placed-none, placed-fault}
 
@@ -83,7 +85,7 @@ module _ {book cert w v : List ℕ} {at k n : ℕ} {f : Found} (ne : n ≢ 0) (s
 
 -- ---- the whole
 
-pub prepares : {book w v after : List ℕ} → Forgets 768 w v → Indexes book v after → Prepares book w after
+pub prepares : {book w v after : List ℕ} → Forgets EMPTY w v → Indexes book v after → Prepares book w after
 prepares {book} {w} {v} {after} f i = record {
   told = λ cert b arity fits lies. record {
     arity = arity;
@@ -91,12 +93,12 @@ prepares {book} {w} {v} {after} f i = record {
     few-claims = omega arith;
     rule = λ k r e. i .told b arity fits lies k r e;
     claim = λ k c e. no-claim k c e;
-    bare = λ x. entry-above 768 (omega arith) (i .kept) x ∙ f .none x;
+    bare = λ x. entry-above EMPTY (omega arith) (i .kept) x ∙ f .none x;
   };
   size = i .kept .size ∙ f .kept .size;
 }
   where
-    no-claim : {cert ars : List ℕ} (k : ℕ) (c : Claim Exp) → _≡_ {A = Option (Claim Exp)} none (some c) → ClaimAt cert ars (getD after (256 + k) 0) (getD after (512 + k) 0) c
+    no-claim : {cert ars : List ℕ} (k : ℕ) (c : Claim Exp) → _≡_ {A = Option (Claim Exp)} none (some c) → ClaimAt cert ars (getD after (LEFTS + k) 0) (getD after (RIGHTS + k) 0) c
     no-claim k c e = let z : _≡_ {A = ℕ} 0 1 = cc in absurd (omega arith)
 
 pub judges-lines : {book cert w v after : List ℕ} {c : Read} {r : Ruling} → Prepares book w v → Takes cert 8 0 c → LinesAt book cert (c .at) 0 (c .value) v after r

@@ -17,30 +17,31 @@ use Rattle.patterns.specs.Certificate.{Claim, Kind, unfolds, descends}
 use Rattle.patterns.specs.Judge.{Check, line-checks}
 use Rattle.grammar.specs.Listing.{if-any, term-fields, claim-fields, kind-fields, kind-number, line-fields}
 use Rattle.grammar.specs.Limits.{KindFits, call-counts}
-use Rattle.checking.specs.declared.Read.{Read}
-use Rattle.checking.specs.declared.Found.{Found}
+use Rattle.table.specs.Places.{LEFTS, RIGHTS, EMPTY}
+use Rattle.instances.specs.declared.Read.{Read}
+use Rattle.comparing.specs.declared.Found.{Found}
 use Rattle.instances.specs.Lying.{Lies, behind}
 use Rattle.instances.specs.Fillings.{entry}
 use Rattle.instances.specs.Instances.{Skips}
-use Rattle.checking.specs.Placed.{Takes, RightAt, LeftAt, RuleAt, ClaimAt, PassesRight}
-use Rattle.checking.specs.Known.{Known}
-use Rattle.checking.specs.Found.{Finds}
+use Rattle.begins.specs.Placed.{RightAt, LeftAt, RuleAt, ClaimAt, PassesRight}
+use Rattle.instances.specs.Taking.{Takes}
+use Rattle.begins.specs.Known.{Known}
+use Rattle.comparing.specs.Found.{Finds}
 use Rattle.unfolds.specs.Unfoldings.{UnfoldAt}
 use Rattle.descents.specs.Descents.{DescentAt}
 use Rattle.lines.specs.Certificates.{NotesLine, KindAt, LineAt}
 use Rattle.instances.proofs.Lying.{lies-front, lies-back}
-use Rattle.checking.proofs.Passing.{term-at}
-use Rattle.checking.proofs.Using.{rest-at}
-use Rattle.checking.proofs.Frames.{known-below, found-below}
+use Rattle.instances.proofs.Taking.{term-at, rest-at}
+use Rattle.begins.proofs.Frames.{known-below, found-below}
 
 -- ---- a line's claim among the others
 
-pub notes-line : (k left right : ℕ) (w : List ℕ) → 512 + k < length w → NotesLine k left right w (set (set w (256 + k) left) (512 + k) right)
+pub notes-line : (k left right : ℕ) (w : List ℕ) → RIGHTS + k < length w → NotesLine k left right w (set (set w (LEFTS + k) left) (RIGHTS + k) right)
 notes-line k left right w room = record {
-  size = length-set (set w (256 + k) left) (512 + k) right ∙ length-set w (256 + k) left;
-  left-word = getD-set-other (set w (256 + k) left) (512 + k) (256 + k) right 0 (λ z. omega arith) ∙ getD-set-same w (256 + k) left 0 (omega arith);
-  right-word = getD-set-same (set w (256 + k) left) (512 + k) right 0 (omega (arith, length-set w (256 + k) left));
-  others = λ i p q. getD-set-other (set w (256 + k) left) (512 + k) i right 0 q ∙ getD-set-other w (256 + k) i left 0 p;
+  size = length-set (set w (LEFTS + k) left) (RIGHTS + k) right ∙ length-set w (LEFTS + k) left;
+  left-word = getD-set-other (set w (LEFTS + k) left) (RIGHTS + k) (LEFTS + k) right 0 (λ z. omega arith) ∙ getD-set-same w (LEFTS + k) left 0 (omega arith);
+  right-word = getD-set-same (set w (LEFTS + k) left) (RIGHTS + k) right 0 (omega (arith, length-set w (LEFTS + k) left));
+  others = λ i p q. getD-set-other (set w (LEFTS + k) left) (RIGHTS + k) i right 0 q ∙ getD-set-other w (LEFTS + k) i left 0 p;
 }
 
 found-more : {A : Type 0} (l : List A) (a b : A) (i : ℕ) → getElem? (l ++ (a ∷ [])) i ≡ some b → (getElem? l i ≡ some b) ⊎ ((i ≡ length l) × (a ≡ b))
@@ -71,21 +72,21 @@ known-more {book} {cert} {w} {v} {ars} {B} {es} {left} {right} {c} n small k her
   bare = λ x. free x (ltb x 64) refl (k .bare x);
 }
   where
-    go : (i : ℕ) (d : Claim Exp) → (getElem? es i ≡ some d) ⊎ ((i ≡ length es) × (c ≡ d)) → ClaimAt cert ars (getD v (256 + i) 0) (getD v (512 + i) 0) d
+    go : (i : ℕ) (d : Claim Exp) → (getElem? es i ≡ some d) ⊎ ((i ≡ length es) × (c ≡ d)) → ClaimAt cert ars (getD v (LEFTS + i) 0) (getD v (RIGHTS + i) 0) d
     go i d (inl e) =
         let l = found-below es i d e in
-        let a = n .others (256 + i) (λ z. omega arith) (λ z. omega arith) in
-        let b = n .others (512 + i) (λ z. omega arith) (λ z. omega arith) in
-        subst (λ j. ClaimAt cert ars j (getD v (512 + i) 0) d) (sym a)
-        (subst (λ j. ClaimAt cert ars (getD w (256 + i) 0) j d) (sym b) (k .claim i d e))
+        let a = n .others (LEFTS + i) (λ z. omega arith) (λ z. omega arith) in
+        let b = n .others (RIGHTS + i) (λ z. omega arith) (λ z. omega arith) in
+        subst (λ j. ClaimAt cert ars j (getD v (RIGHTS + i) 0) d) (sym a)
+        (subst (λ j. ClaimAt cert ars (getD w (LEFTS + i) 0) j d) (sym b) (k .claim i d e))
     go i d (inr e) =
-        let a : left ≡ getD v (256 + i) 0 = sym (n .left-word) ∙ ap (λ j. getD v (256 + j) 0) (sym (e .0)) in
-        let b : right ≡ getD v (512 + i) 0 = sym (n .right-word) ∙ ap (λ j. getD v (512 + j) 0) (sym (e .0)) in
-        subst (λ x. ClaimAt cert ars (getD v (256 + i) 0) (getD v (512 + i) 0) x) (e .1)
-        (subst (λ j. ClaimAt cert ars j (getD v (512 + i) 0) c) a (subst (λ j. ClaimAt cert ars left j c) b here))
+        let a : left ≡ getD v (LEFTS + i) 0 = sym (n .left-word) ∙ ap (λ j. getD v (LEFTS + j) 0) (sym (e .0)) in
+        let b : right ≡ getD v (RIGHTS + i) 0 = sym (n .right-word) ∙ ap (λ j. getD v (RIGHTS + j) 0) (sym (e .0)) in
+        subst (λ x. ClaimAt cert ars (getD v (LEFTS + i) 0) (getD v (RIGHTS + i) 0) x) (e .1)
+        (subst (λ j. ClaimAt cert ars j (getD v (RIGHTS + i) 0) c) a (subst (λ j. ClaimAt cert ars left j c) b here))
 
-    free : (x : ℕ) (t : Bool) → ltb x 64 ≡ t → cond t (getD w (768 + x) 0) 0 ≡ 0 → cond t (getD v (768 + x) 0) 0 ≡ 0
-    free x true e h = n .others (768 + x) (λ z. omega arith) (λ z. omega arith) ∙ h
+    free : (x : ℕ) (t : Bool) → ltb x 64 ≡ t → cond t (getD w (EMPTY + x) 0) 0 ≡ 0 → cond t (getD v (EMPTY + x) 0) 0 ≡ 0
+    free x true e h = n .others (EMPTY + x) (λ z. omega arith) (λ z. omega arith) ∙ h
     free x false e h = h
 
 -- the claims before a line, and the table that has its claim too

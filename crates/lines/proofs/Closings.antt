@@ -18,38 +18,40 @@ use Rattle.patterns.specs.Judge.{check, compare, loop-checks, closing-checks, a
 use Rattle.grammar.specs.Listing.{closing-fields}
 use Rattle.verdicts.proofs.Parted.{parted-closing}
 use Rattle.answers.specs.declared.Verdict.{Verdict as Ruling}
-use Rattle.checking.specs.declared.Read.{Read}
-use Rattle.checking.specs.declared.Found.{Found}
-use Rattle.checking.specs.declared.Found.the-variants.{Fault, Good}
-use Rattle.checking.specs.declared.Kind.the-variants.{Closing as AtClosing}
-use Rattle.checking.specs.declared.Subject.{Subject}
-use Rattle.checking.specs.declared.Subject.the-variants.{Empty, Used}
-use Rattle.checking.specs.declared.Behind.the-variants.{Nothing}
+use Rattle.instances.specs.declared.Read.{Read}
+use Rattle.comparing.specs.declared.Found.{Found}
+use Rattle.comparing.specs.declared.Found.the-variants.{Fault, Good}
+use Rattle.comparing.specs.declared.Kind.the-variants.{Closing as AtClosing}
+use Rattle.comparing.specs.declared.Subject.{Subject}
+use Rattle.comparing.specs.declared.Subject.the-variants.{Empty, Used}
+use Rattle.comparing.specs.declared.Behind.the-variants.{Nothing}
 use Rattle.instances.specs.Fillings.{Fills as Tells}
-use Rattle.fillings.specs.Listings.{Lists}
-use Rattle.checking.specs.Placed.{Takes, RightAt, ClaimAt}
-use Rattle.checking.specs.Known.{Known}
-use Rattle.checking.specs.Subjects.{Means, PlainRight}
-use Rattle.checking.specs.Found.{Finds}
-use Rattle.checking.specs.Asked.{asked-at, checks-of, end-of, Checks}
+use Rattle.instances.specs.Listings.{Lists}
+use Rattle.begins.specs.Placed.{RightAt, ClaimAt}
+use Rattle.instances.specs.Taking.{Takes}
+use Rattle.begins.specs.Known.{Known}
+use Rattle.comparing.specs.Subjects.{Means, PlainRight}
+use Rattle.comparing.specs.Found.{Finds}
+use Rattle.comparing.specs.Asked.{asked-at, checks-of, end-of, Checks}
 use Rattle.lines.specs.Certificates.{pace-of, ClosingFound, ClosingBy, ClosingAt}
-use Rattle.checking.proofs.Using.{rest-at}
-use Rattle.checking.proofs.Frames.{below-less, kept-below, known-below, tells-below}
-use Rattle.checking.proofs.Meanings.{filled-means}
-use Rattle.checking.proofs.Finding.{fault-unmet, at-fault, at-good, finds-stop, finds-then}
-use Rattle.unfolds.proofs.Naming.{named, finds-given}
+use Rattle.instances.proofs.Taking.{rest-at}
+use Rattle.begins.proofs.Frames.{below-less, kept-below, known-below, tells-below}
+use Rattle.comparing.proofs.Meanings.{filled-means}
+use Rattle.comparing.proofs.Finding.{fault-unmet, at-fault, at-good, finds-stop, finds-then, finds-given}
+use Rattle.patterns.proofs.Every.{below-listed}
+use Rattle.table.specs.Places.{LEFTS, RIGHTS, USED}
 use Rattle.lines.proofs.Placing.{fault-carried, closed-fault, closed-none}
 
 -- ---- the closing
 
 -- the claim that the closing names
-closed-claim : {book cert w ars : List ℕ} {B : Book Exp} {es : List (Claim Exp)} {line left right : ℕ} → left ≡ getD w (256 + line) 0
-    → right ≡ getD w (512 + line) 0 → Known book cert w ars B es → (n : ℕ) → n ≡ line → (l : Claim Exp) → getElem? es n ≡ some l
+closed-claim : {book cert w ars : List ℕ} {B : Book Exp} {es : List (Claim Exp)} {line left right : ℕ} → left ≡ getD w (LEFTS + line) 0
+    → right ≡ getD w (RIGHTS + line) 0 → Known book cert w ars B es → (n : ℕ) → n ≡ line → (l : Claim Exp) → getElem? es n ≡ some l
     → ClaimAt cert ars left right l
 closed-claim {cert = cert} {w = w} {ars = ars} {left = left} {right = right} el er known n e l found =
-    let a : getD w (256 + n) 0 ≡ left = ap (λ j. getD w (256 + j) 0) e ∙ sym el in
-    let b : getD w (512 + n) 0 ≡ right = ap (λ j. getD w (512 + j) 0) e ∙ sym er in
-    subst (λ j. ClaimAt cert ars j right l) a (subst (λ j. ClaimAt cert ars (getD w (256 + n) 0) j l) b (known .claim n l found))
+    let a : getD w (LEFTS + n) 0 ≡ left = ap (λ j. getD w (LEFTS + j) 0) e ∙ sym el in
+    let b : getD w (RIGHTS + n) 0 ≡ right = ap (λ j. getD w (RIGHTS + j) 0) e ∙ sym er in
+    subst (λ j. ClaimAt cert ars j right l) a (subst (λ j. ClaimAt cert ars (getD w (LEFTS + n) 0) j l) b (known .claim n l found))
 
 module _ {book cert w v : List ℕ} {left right : ℕ} {r : Found} (first : Checks book cert AtClosing 0 right Nothing Empty Empty w v r) where
   there-found : {ars : List ℕ} {B : Book Exp} {es : List (Claim Exp)} → Known book cert w ars B es → {l : Claim Exp} → ClaimAt cert ars left right l
@@ -57,19 +59,19 @@ module _ {book cert w v : List ℕ} {left right : ℕ} {r : Found} (first : Chec
   unfolding asked-at checks-of end-of Means
   there-found {ars} known here = first .told ars (known .arity) _ (here .right-at) none 0 (refl, refl) none 0 (refl, refl)
 
-  pub closing-empty : {line k α n p : ℕ} → left ≡ getD w (256 + line) 0 → right ≡ getD w (512 + line) 0 → r ≡ Fault n p
+  pub closing-empty : {line k α n p : ℕ} → left ≡ getD w (LEFTS + line) 0 → right ≡ getD w (RIGHTS + line) 0 → r ≡ Fault n p
       → ClosingFound book cert line k α w v (Fault n p)
   unfolding closing-checks
   closing-empty el er q = record {
     told = λ ars B es known d e p filled small.
-        let n = named es (d .line) small in
-        (0, finds-given _ (n .found) (finds-stop _ (there-found known (closed-claim el er known (d .line) e (n .claim) (n .found))) q));
+        let n = below-listed es (d .line) small in
+        (0, finds-given _ (n .1) (finds-stop _ (there-found known (closed-claim el er known (d .line) e (n .0) (n .1))) q));
     size = first .below .size;
   }
 
   module _ (k α : ℕ) {x : ℕ} {from-right : Subject} {after : List ℕ} {s : Found} (good : r ≡ Good x) (plain : PlainRight cert right 1 α from-right) (second : Checks book cert AtClosing 1 right Nothing from-right (Used left 1 (α + k)) v after s) where
     loop-found : {ars : List ℕ} {B : Book Exp} {es : List (Claim Exp)} → Known book cert w ars B es → (d : Closing Exp Pace) → d .pace ≡ pace-of k α
-        → Tells book cert w 896 (by (d .fills)) → (l : Claim Exp) → ClaimAt cert ars left right l → (m : Mark Exp) → l .right ≡ m
+        → Tells book cert w USED (by (d .fills)) → (l : Claim Exp) → ClaimAt cert ars left right l → (m : Mark Exp) → l .right ≡ m
         → (end : ℕ) × Finds (loop-checks one l d m) end s
     unfolding loop-checks from to asked-at checks-of end-of Met
     loop-found {ars} {B} {es} known d p filled l here none q =
@@ -84,14 +86,14 @@ module _ {book cert w v : List ℕ} {left right : ℕ} {r : Found} (first : Chec
               (second .told ars (known .arity) _ right-at _ _ (o .1) _ _ t),
         )
 
-    pub closing-loop : {line : ℕ} → left ≡ getD w (256 + line) 0 → right ≡ getD w (512 + line) 0 → ClosingFound book cert line k α w after s
+    pub closing-loop : {line : ℕ} → left ≡ getD w (LEFTS + line) 0 → right ≡ getD w (RIGHTS + line) 0 → ClosingFound book cert line k α w after s
     unfolding closing-checks
     closing-loop el er = record {
       told = λ ars B es known d e p filled small.
-          let n = named es (d .line) small in
-          let here = closed-claim el er known (d .line) e (n .claim) (n .found) in
-          let loop = loop-found known d p filled (n .claim) here (n .claim .right) refl in
-          (loop .0, finds-given _ (n .found) (finds-then (there-found known here) good (λ z. loop .1)));
+          let n = below-listed es (d .line) small in
+          let here = closed-claim el er known (d .line) e (n .0) (n .1) in
+          let loop = loop-found known d p filled (n .0) here (n .0 .right) refl in
+          (loop .0, finds-given _ (n .1) (finds-then (there-found known here) good (λ z. loop .1)));
       size = second .below .size ∙ first .below .size;
     }
 
@@ -115,7 +117,7 @@ module _ {book cert w v : List ℕ} {line k α : ℕ} {f : Found} (found : Closi
   }
 
 pub closing-at : {book cert w v after : List ℕ} {at end : ℕ} {c d e : Read} {r : Ruling} → Takes cert 8 at c → Takes cert 12 (c .at) d → Takes cert 12 (d .at) e
-    → Lists book cert 896 (e .at) w v end → ClosingBy book cert (c .value) (d .value) (e .value) v after r → ClosingAt book cert at w after r
+    → Lists book cert USED (e .at) w v end → ClosingBy book cert (c .value) (d .value) (e .value) v after r → ClosingAt book cert at w after r
 unfolding closing-fields
 closing-at {book} {cert} {w} {v} {after} {at} {end} {c} {d} {e} tc td te f p = record {
   told = λ ars B es known k fits lies.

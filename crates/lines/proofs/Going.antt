@@ -8,8 +8,8 @@ use Rattle.answers.specs.Numbers.{paper-verdict}
 use Rattle.patterns.specs.Refusal.{line-place}
 use Rattle.patterns.specs.Judge.{refuse}
 use Rattle.answers.specs.declared.Verdict.{Verdict as Ruling}
-use Rattle.checking.specs.declared.Found.{Found}
-use Rattle.checking.specs.declared.Found.the-variants.{Fault, Good}
+use Rattle.comparing.specs.declared.Found.{Found}
+use Rattle.comparing.specs.declared.Found.the-variants.{Fault, Good}
 use Rattle.lines.specs.Certificates.{LineAt, ClosingAt, LinesAt}
 use Rattle.lines.proofs.Certifying.{lines-none, lines-fault, lines-on}
 

@@ -13,7 +13,7 @@ use Rattle.patterns.specs.Certificate.{Closing}
 use Rattle.patterns.specs.Demand.{Met, met?}
 use Rattle.patterns.specs.Judge.{Check, Placed, place, first-unmet, accept, refuse, verdict}
 use Rattle.verdicts.proofs.Parted.{Parted}
-use Rattle.checking.specs.Found.{fault}
+use Rattle.comparing.specs.Found.{fault}
 
 -- ---- the verdict of placed checks
 

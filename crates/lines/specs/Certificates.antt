@@ -13,13 +13,14 @@ use Rattle.patterns.specs.Judge.{place, line-checks, closing-checks, checks-fro
 use Rattle.grammar.specs.Books.{RuleBook}
 use Rattle.grammar.specs.Listing.{line-fields, kind-fields, kind-number, closing-fields, certificate-fields, book-fields}
 use Rattle.grammar.specs.Limits.{ClaimFits, KindFits, LinesFit, ClosingFits, call-counts, BookFits, CertificateFits}
+use Rattle.table.specs.Places.{LEFTS, RIGHTS, OWN, USED}
 use Rattle.answers.specs.declared.Verdict.{Verdict as Ruling}
-use Rattle.checking.specs.declared.Found.{Found}
-use Rattle.instances.specs.Lying.{Lies}
+use Rattle.comparing.specs.declared.Found.{Found}
+use Rattle.instances.specs.Lying.{Lies, Known-arities}
 use Rattle.instances.specs.Fillings.{Fills as Tells}
-use Rattle.checking.specs.Placed.{Known-arities, RightAt, LeftAt}
-use Rattle.checking.specs.Known.{Below, Known}
-use Rattle.checking.specs.Found.{Finds}
+use Rattle.begins.specs.Placed.{RightAt, LeftAt}
+use Rattle.begins.specs.Known.{Below, Known}
+use Rattle.comparing.specs.Found.{Finds}
 
 abbrev pub pace-of : ℕ → ℕ → Pace
 pace-of k α = record { k = k; α = α }
@@ -27,9 +28,9 @@ pace-of k α = record { k = k; α = α }
 -- line k's word of both kinds, and no other
 pub record NotesLine (k left right : ℕ) (w after : List ℕ) : Type 0 where
   pub size : length after ≡ length w
-  pub left-word : getD after (256 + k) 0 ≡ left
-  pub right-word : getD after (512 + k) 0 ≡ right
-  pub others : (i : ℕ) → (i ≡ 256 + k → ⊥) → (i ≡ 512 + k → ⊥) → getD after i 0 ≡ getD w i 0
+  pub left-word : getD after (LEFTS + k) 0 ≡ left
+  pub right-word : getD after (RIGHTS + k) 0 ≡ right
+  pub others : (i : ℕ) → (i ≡ LEFTS + k → ⊥) → (i ≡ RIGHTS + k → ⊥) → getD after i 0 ≡ getD w i 0
 
 -- the checks of what stands behind a claim
 pub record KindAt (book cert : List ℕ) (tag left right at : ℕ) (w after : List ℕ) (r : Found) : Type 0 where
@@ -37,7 +38,7 @@ pub record KindAt (book cert : List ℕ) (tag left right at : ℕ) (w after : Li
       → (l : Line Exp Pair) → LeftAt cert ars left (l .claim .left) → RightAt cert ars right (l .claim .right) → kind-number (l .kind) ≡ tag
       → KindFits ars (call-counts B) (length es) (l .kind) → Lies cert at (kind-fields (l .kind))
       → Finds (line-checks one es B (l .claim) (l .kind)) (at + width (kind-fields (l .kind))) r
-  pub below : Below 832 w after
+  pub below : Below OWN w after
 
 -- a line's checks, and the table with its claim among those before
 pub record LineAt (book cert : List ℕ) (at k : ℕ) (w after : List ℕ) (r : Found) : Type 0 where
@@ -49,14 +50,14 @@ pub record LineAt (book cert : List ℕ) (at k : ℕ) (w after : List ℕ) (r : 
 -- the checks of a closing whose filling stands in the table
 pub record ClosingFound (book cert : List ℕ) (line k α : ℕ) (w after : List ℕ) (r : Found) : Type 0 where
   pub told : (ars : List ℕ) (B : Book Exp) (es : List (Claim Exp)) → Known book cert w ars B es
-      → (c : Closing Exp Pace) → c .line ≡ line → c .pace ≡ pace-of k α → Tells book cert w 896 (by (c .fills)) → c .line < length es
+      → (c : Closing Exp Pace) → c .line ≡ line → c .pace ≡ pace-of k α → Tells book cert w USED (by (c .fills)) → c .line < length es
       → (end : ℕ) × Finds (closing-checks one es c) end r
   pub size : length after ≡ length w
 
 -- and its verdict
 pub record ClosingBy (book cert : List ℕ) (line k α : ℕ) (w after : List ℕ) (r : Ruling) : Type 0 where
   pub told : (ars : List ℕ) (B : Book Exp) (es : List (Claim Exp)) → Known book cert w ars B es
-      → (c : Closing Exp Pace) → c .line ≡ line → c .pace ≡ pace-of k α → Tells book cert w 896 (by (c .fills)) → c .line < length es
+      → (c : Closing Exp Pace) → c .line ≡ line → c .pace ≡ pace-of k α → Tells book cert w USED (by (c .fills)) → c .line < length es
       → paper-verdict r ≡ verdict one (first-unmet one (map (place one closing-place (c .line)) (closing-checks one es c))) c
   pub size : length after ≡ length w
 

@@ -2,25 +2,30 @@
 use answers::Acceptance;
 use answers::Verdict;
 use answers::W;
-use checking::Behind;
-use checking::Found;
-use checking::Kind;
-use checking::Subject;
+use comparing::Behind;
+use comparing::Found;
+use comparing::Kind;
+use comparing::Subject;
+use table::EMPTY;
+use table::LEFTS;
+use table::RIGHTS;
+use table::USED;
 ghost use mathlib.Core.Path.{_≡_};
 ghost use Prim.Native.Nat.{_+_, _≤_, _<_};
 ghost use lib.ListN.{length};
 ghost use Rattle.answers.specs.Carried.{carried};
 ghost use Rattle.answers.specs.Numbers.{w-of, paper-verdict};
 ghost use Rattle.patterns.specs.Judge.{accept};
+ghost use Rattle.table.specs.Places.{WORDS, ROWS};
 ghost use Rattle.lines.specs.Certificates.{pace-of, NotesLine, KindAt, LineAt, ClosingFound, ClosingBy, ClosingAt, LinesAt, Prepares, JudgesLines};
 
 // Where both sides of line k lie, noted.
 fn note_line(w: &mut [u64], k: usize, left: usize, right: usize)
-    requires { ⌜ (8192 ≤ length (now w)) × (k < 256) ⌝ }
+    requires { ⌜ (WORDS ≤ length (now w)) × (k < ROWS) ⌝ }
     ensures { λ _. ⌜ NotesLine k left right (now (w .entry)) (now (w .exit)) ⌝ }
 {
-    w[256 + k] = left as u64;
-    w[512 + k] = right as u64;
+    w[LEFTS + k] = left as u64;
+    w[RIGHTS + k] = right as u64;
 }
 
 // What stands behind a line's claim: an unfold, or a descent.
@@ -33,7 +38,7 @@ fn behind_claim(
     right: usize,
     at: usize,
 ) -> Found
-    requires { ⌜ 8192 ≤ length (now w) ⌝ }
+    requires { ⌜ WORDS ≤ length (now w) ⌝ }
     ensures { λ r. ⌜ KindAt (now (book .entry)) (now (certificate .entry)) tag left right at (now (w .entry)) (now (w .exit)) r ⌝ }
 {
     match tag {
@@ -44,13 +49,13 @@ fn behind_claim(
 
 // The line k at a bit: its claim is noted, and its checks are made.
 fn line(book: &[u8], certificate: &[u8], w: &mut [u64], at: usize, k: usize) -> Found
-    requires { ⌜ (8192 ≤ length (now w)) × (k < 256) ⌝ }
+    requires { ⌜ (WORDS ≤ length (now w)) × (k < ROWS) ⌝ }
     ensures { λ r. ⌜ LineAt (now (book .entry)) (now (certificate .entry)) at k (now (w .entry)) (now (w .exit)) r ⌝ }
 {
-    let tag = checking::field(certificate, 1, at);
+    let tag = instances::field(certificate, 1, at);
     let left = tag.at;
     let right = instances::skip(book, certificate, left);
-    let rest = checking::pass_right(book, certificate, right);
+    let rest = begins::pass_right(book, certificate, right);
     note_line(w, k, left, right);
     behind_claim(book, certificate, w, tag.value, left, right, rest)
 }
@@ -64,14 +69,18 @@ fn closing_parts(
     k: u16,
     alpha: u16,
 ) -> Found
-    requires { ⌜ (8192 ≤ length (now w)) × (line < 256) × (k < 4096) × (alpha < 4096) ⌝ }
+    requires { ⌜ (WORDS ≤ length (now w)) × (line < ROWS) × (k < 4096) × (alpha < 4096) ⌝ }
     ensures { λ r. ⌜ ClosingFound (now (book .entry)) (now (certificate .entry)) line k alpha (now (w .entry)) (now (w .exit)) r ⌝ }
 {
-    let left = checking::noted(w, 256 + line);
-    let right = checking::noted(w, 512 + line);
-    let from = checking::plain_right(certificate, right, 1, alpha);
-    let to = Subject::Used(left, 1, alpha + k);
-    match checking::check(
+    let left = begins::noted(w, LEFTS + line);
+    let right = begins::noted(w, RIGHTS + line);
+    let from = comparing::plain_right(certificate, right, 1, alpha);
+    let to = Subject::Used {
+        at: left,
+        i: 1,
+        j: alpha + k,
+    };
+    match comparing::check(
         book,
         certificate,
         w,
@@ -82,8 +91,8 @@ fn closing_parts(
         Subject::Empty,
         Subject::Empty,
     ) {
-        Found::Fault(n, p) => Found::Fault(n, p),
-        Found::Good(_) => checking::check(
+        Found::Fault { number: n, part: p } => Found::Fault { number: n, part: p },
+        Found::Good(_) => comparing::check(
             book,
             certificate,
             w,
@@ -106,11 +115,11 @@ fn closing_by(
     k: u16,
     alpha: u16,
 ) -> Verdict
-    requires { ⌜ (8192 ≤ length (now w)) × (line < 256) × (k < 4096) × (alpha < 4096) ⌝ }
+    requires { ⌜ (WORDS ≤ length (now w)) × (line < ROWS) × (k < 4096) × (alpha < 4096) ⌝ }
     ensures { λ r. ⌜ ClosingBy (now (book .entry)) (now (certificate .entry)) line k alpha (now (w .entry)) (now (w .exit)) r ⌝ }
 {
     match closing_parts(book, certificate, w, line, k, alpha) {
-        Found::Fault(n, p) => Verdict::Refused(answers::carried(n, W::Closing, line, p)),
+        Found::Fault { number: n, part: p } => Verdict::Refused(answers::carried(n, W::Closing, line, p)),
         Found::Good(_) => accepted(line, k, alpha),
     }
 }
@@ -128,20 +137,20 @@ fn accepted(line: usize, k: u16, alpha: u16) -> Verdict
 
 // The closing at a bit.
 fn closing(book: &[u8], certificate: &[u8], w: &mut [u64], at: usize) -> Verdict
-    requires { ⌜ 8192 ≤ length (now w) ⌝ }
+    requires { ⌜ WORDS ≤ length (now w) ⌝ }
     ensures { λ r. ⌜ ClosingAt (now (book .entry)) (now (certificate .entry)) at (now (w .entry)) (now (w .exit)) r ⌝ }
 {
-    let line = checking::field(certificate, 8, at);
+    let line = instances::field(certificate, 8, at);
     let n = line.value as usize;
-    let k = checking::field(certificate, 12, line.at);
-    let alpha = checking::field(certificate, 12, k.at);
-    fillings::list_filling(book, certificate, w, 896, alpha.at);
+    let k = instances::field(certificate, 12, line.at);
+    let alpha = instances::field(certificate, 12, k.at);
+    instances::fillings::list_filling(book, certificate, w, USED, alpha.at);
     closing_by(book, certificate, w, n, k.value, alpha.value)
 }
 
 // The n lines from number k on, which lie at a bit, and the closing behind them.
 fn lines(book: &[u8], certificate: &[u8], w: &mut [u64], at: usize, k: usize, n: usize) -> Verdict
-    requires { ⌜ (8192 ≤ length (now w)) × (k + n ≤ 255) ⌝ }
+    requires { ⌜ (WORDS ≤ length (now w)) × (k + n ≤ 255) ⌝ }
     ensures { λ r. ⌜ LinesAt (now (book .entry)) (now (certificate .entry)) at k n (now (w .entry)) (now (w .exit)) r ⌝ }
 {
     let mut next = at;
@@ -149,7 +158,7 @@ fn lines(book: &[u8], certificate: &[u8], w: &mut [u64], at: usize, k: usize, n:
     let mut more = n;
     while more > 0 {
         match line(book, certificate, w, next, number) {
-            Found::Fault(m, part) => {
+            Found::Fault { number: m, part } => {
                 return Verdict::Refused(answers::carried(m, W::Line, number, part));
             }
             Found::Good(end) => {
@@ -164,20 +173,20 @@ fn lines(book: &[u8], certificate: &[u8], w: &mut [u64], at: usize, k: usize, n:
 
 // The table made ready: no filling in the first filling table, and the begins of the rules.
 fn prepare(book: &[u8], w: &mut [u64])
-    requires { ⌜ 8192 ≤ length (now w) ⌝ }
+    requires { ⌜ WORDS ≤ length (now w) ⌝ }
     ensures { λ _. ⌜ Prepares (now (book .entry)) (now (w .entry)) (now (w .exit)) ⌝ }
 {
-    fillings::forget(w, 768);
-    checking::index_rules(book, w);
+    instances::fillings::forget(w, EMPTY);
+    begins::index_rules(book, w);
 }
 
 // The verdict on a good certificate beside a good book.
 pub fn judge_lines(book: &[u8], certificate: &[u8], w: &mut [u64]) -> Verdict
-    requires { ⌜ 8192 ≤ length (now w) ⌝ }
+    requires { ⌜ WORDS ≤ length (now w) ⌝ }
     ensures { λ r. ⌜ JudgesLines (now (book .entry)) (now (certificate .entry)) (now (w .entry)) (now (w .exit)) r ⌝ }
 {
     prepare(book, w);
-    let count = checking::field(certificate, 8, 0);
+    let count = instances::field(certificate, 8, 0);
     let n = count.value as usize;
     lines(book, certificate, w, count.at, 0, n)
 }

@@ -17,6 +17,7 @@ use Rattle.patterns.specs.Push.{pushes, retag, expand}
 use Rattle.patterns.proofs.Term.{length-nodes}
 use Rattle.patterns.proofs.Push.{push-norm, push-instance}
 use Rattle.patterns.proofs.Formed.{nodes-inj, formed-norm}
+use Rattle.table.specs.Places.{SIDE}
 use Rattle.table.specs.Nodes.{stack, side}
 use Rattle.table.specs.Sides.{Kept, Holds, Took}
 use Rattle.table.specs.Marks.{markNodes, formNodes, Built}
@@ -50,7 +51,7 @@ module _ (base : ℕ) (w v : List ℕ) (r : Pushed) where
       turned base (pushes exponents [] (expand θ (retag h (nodes t)))) (some (fill θ (exps h t))) v r (push-instance exponents h θ t) (p .holds)
 
 -- the other side leaves it as it is
-pub built-apart : (base other : ℕ) (m : Mark Exp) (w v : List ℕ) (r : Pushed) → Apart base 3072 other 3072 → Kept other 3072 w v
+pub built-apart : (base other : ℕ) (m : Mark Exp) (w v : List ℕ) (r : Pushed) → Apart base SIDE other SIDE → Kept other SIDE w v
     → Built base m w r → Built base m v r
 unfolding Built side
 built-apart base other m w v (Count k) a c b = (b .0, ap reverse (stack-apart k (b .0) a c) ∙ b .1)

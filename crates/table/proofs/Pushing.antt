@@ -11,6 +11,7 @@ use Rattle.patterns.specs.Term.{Node, npow}
 use Rattle.patterns.specs.First.{Exp, exponents}
 use Rattle.patterns.specs.Counters.{pair-path, more, alone}
 use Rattle.patterns.specs.Push.{put, push, pushes}
+use Rattle.table.specs.Places.{SIDE, NODES}
 use Rattle.table.specs.Nodes.{nodeOf, nodeAt, withNode, stack, topCode, load}
 use Rattle.table.specs.Sides.{told, Room, Holds, Became, Took}
 use Rattle.table.specs.declared.Item.{Item}
@@ -26,15 +27,15 @@ became-as {base} {ns} {ms} {w} {v} {r} e b = subst (λ l. Became base l w v r) e
 -- ---- a node stored
 
 module _ (w : List ℕ) (base n code a b : ℕ) (room : Room base n w) where
-  pub store-full : n ≡ 1024 → Became base (nodeOf code a b ∷ stack w base n) w w NoRoom
+  pub store-full : n ≡ NODES → Became base (nodeOf code a b ∷ stack w base n) w w NoRoom
   unfolding Holds
-  store-full h = record { holds = omega (arith, stack-length w base n); kept = kept-self base 3072 w }
+  store-full h = record { holds = omega (arith, stack-length w base n); kept = kept-self base SIDE w }
 
-  pub store-one : (v : List ℕ) → (n ≡ 1024 → ⊥) → v ≡ withNode w (base + 3 * n) code a b
+  pub store-one : (v : List ℕ) → (n ≡ NODES → ⊥) → v ≡ withNode w (base + 3 * n) code a b
       → Became base (nodeOf code a b ∷ stack w base n) w v (Count (n + 1))
   unfolding Holds
   store-one v h e =
-      let less : n < 1024 = omega (arith, room .few) in
+      let less : n < NODES = omega (arith, room .few) in
       rw (add-one n, e)
       (record {
         holds = (omega arith, with-stack w base n code a b (omega (arith, room .within)));
@@ -96,10 +97,10 @@ push-other w base (suc n) s a b h k =
     ∙ sym (push-some _ s a b h ∙ put-other s (a, b) (stack w base n) (tells _ _ _) k)
 
 -- dropped
-pub push-dropped : (w : List ℕ) (base n s a b : ℕ) → n ≤ 1024 → a + b ≡ 0 → Took base n (npow s (a, b) ∷ []) w w (Count n)
+pub push-dropped : (w : List ℕ) (base n s a b : ℕ) → n ≤ NODES → a + b ≡ 0 → Took base n (npow s (a, b) ∷ []) w w (Count n)
 unfolding Holds pushes
 push-dropped w base n s a b few h =
-    record { holds = (few, sym (push-none (stack w base n) s a b h)); kept = kept-self base 3072 w }
+    record { holds = (few, sym (push-none (stack w base n) s a b h)); kept = kept-self base SIDE w }
 
 -- stored
 pub push-stored : (w v : List ℕ) (base n s a b : ℕ) (r : Pushed) → (a + b ≡ 0 → ⊥) → (topCode w base n ≡ 3 * s + 2 → ⊥)

@@ -8,6 +8,7 @@ use Rattle.patterns.specs.Term.{Node}
 use Rattle.patterns.specs.First.{Exp, exponents}
 use Rattle.patterns.specs.Push.{pushes}
 use Rattle.patterns.proofs.Push.{pushes-append, pushes-grow}
+use Rattle.table.specs.Places.{SIDE, NODES}
 use Rattle.table.specs.Nodes.{stack, load}
 use Rattle.table.specs.Sides.{Room, Kept, Holds, Took}
 use Rattle.table.specs.declared.Pushed.{Pushed}
@@ -17,9 +18,9 @@ use Rattle.table.proofs.Writes.{kept-self, kept-then}
 use Rattle.table.proofs.Loads.{load-pushes}
 use Rattle.table.proofs.Pushing.{became-as}
 
-pub took-none : (base n : ℕ) (w : List ℕ) → n ≤ 1024 → Took base n [] w w (Count n)
+pub took-none : (base n : ℕ) (w : List ℕ) → n ≤ NODES → Took base n [] w w (Count n)
 unfolding Holds pushes
-took-none base n w few = record { holds = (few, refl); kept = kept-self base 3072 w }
+took-none base n w few = record { holds = (few, refl); kept = kept-self base SIDE w }
 
 -- what one run of pushes left, another took up
 pub took-then : (base n k : ℕ) (ms ks : List (Node Exp)) (w v u : List ℕ) (r : Pushed)
@@ -69,7 +70,7 @@ pub kept-apart : {base room other more : ℕ} {w v : List ℕ} → Apart base ro
 kept-apart (before a) c k p q = c .low k (omega arith)
 kept-apart (behind a) c k p q = c .high k (omega arith)
 
-pub stack-apart : {base other more : ℕ} {w v : List ℕ} (n : ℕ) → n ≤ 1024 → Apart base 3072 other more → Kept other more w v → stack v base n ≡ stack w base n
+pub stack-apart : {base other more : ℕ} {w v : List ℕ} (n : ℕ) → n ≤ NODES → Apart base SIDE other more → Kept other more w v → stack v base n ≡ stack w base n
 stack-apart {base} {other} {more} {w} {v} n few a c = stack-kept w v base n (λ k p q. kept-apart a c k p (omega arith))
 
 -- ---- one answer

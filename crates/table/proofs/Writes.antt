@@ -8,6 +8,7 @@ use lib.Seq.{getD-set-same, getD-set-other}
 use Rattle.table.specs.Nodes.{nodeOf, nodeAt, withNode, stack}
 use Rattle.table.specs.Sides.{Kept}
 use Rattle.table.proofs.Nodes.{stack-kept}
+use Rattle.table.specs.Places.{SIDE, NODES}
 
 pub kept-self : (base room : ℕ) (w : List ℕ) → Kept base room w w
 kept-self base room w = record { size = refl; low = λ k h. refl; high = λ k h. refl }
@@ -59,7 +60,7 @@ module _ (w : List ℕ) (base n code a b : ℕ) where
       ap₂ _∷_ (with-node w (base + 3 * n) code a b (omega arith))
       (stack-kept w _ base n (λ k p q. with-low w (base + 3 * n) code a b k q))
 
-  pub with-kept : n < 1024 → Kept base 3072 w (withNode w (base + 3 * n) code a b)
+  pub with-kept : n < NODES → Kept base SIDE w (withNode w (base + 3 * n) code a b)
   with-kept h = record {
     size = with-length w (base + 3 * n) code a b;
     low = λ k l. with-low w (base + 3 * n) code a b k (omega arith);

@@ -1,4 +1,5 @@
 -- What the words of the work table tell, what a push does to a side, and what the comparison answers.
+pub mod Places
 pub mod Nodes
 pub mod Sides
 pub mod Marks

@@ -8,6 +8,7 @@ use Rattle.patterns.specs.Term.{Node, nodes}
 use Rattle.patterns.specs.Edition.{form}
 use Rattle.patterns.specs.Certificate.{Mark}
 use Rattle.patterns.specs.First.{Exp, one}
+use Rattle.table.specs.Places.{NODES}
 use Rattle.table.specs.Nodes.{side}
 use Rattle.table.specs.declared.Pushed.{Pushed}
 use Rattle.table.specs.declared.Pushed.the-variants.{Count, NoRoom}
@@ -23,5 +24,5 @@ formNodes m = markNodes (Option·map (form one) m)
 
 -- the nodes of the normal form stand at `base`, or there are more than 1,024
 unfoldable pub Built : ℕ → Mark Exp → List ℕ → Pushed → Type 0
-Built base m after (Count k) = (k ≤ 1024) × (side after base k ≡ formNodes m)
-Built base m after NoRoom = 1024 < length (formNodes m)
+Built base m after (Count k) = (k ≤ NODES) × (side after base k ≡ formNodes m)
+Built base m after NoRoom = NODES < length (formNodes m)

@@ -6,6 +6,7 @@ use lib.ListN.{length, getD}
 use Rattle.patterns.specs.Term.{Node, nvar, nfun, npow}
 use Rattle.patterns.specs.First.{Exp, exponents, shift}
 use Rattle.patterns.specs.Push.{pushes}
+use Rattle.table.specs.Places.{SIDE, NODES}
 use Rattle.table.specs.Nodes.{stack, load}
 use Rattle.table.specs.declared.Item.{Item}
 use Rattle.table.specs.declared.Item.the-variants.{Variable, Symbol, Power}
@@ -25,8 +26,8 @@ pub record Reindexed (s a b i j : ℕ) (r : Item) : Type 0 where
 
 -- the side at `base` lies within the table, and n nodes are no more than it can hold
 pub record Room (base n : ℕ) (w : List ℕ) : Type 0 where
-  pub within : base + 3072 ≤ length w
-  pub few : n ≤ 1024
+  pub within : base + SIDE ≤ length w
+  pub few : n ≤ NODES
 
 -- no word has changed but the `room` words from `base` on
 pub record Kept (base room : ℕ) (w after : List ℕ) : Type 0 where
@@ -36,13 +37,13 @@ pub record Kept (base room : ℕ) (w after : List ℕ) : Type 0 where
 
 -- the answer for a stack that is wanted: it stands at `base`, or has more than 1,024 nodes
 unfoldable pub Holds : ℕ → List (Node Exp) → List ℕ → Pushed → Type 0
-Holds base wanted after (Count k) = (k ≤ 1024) × (stack after base k ≡ wanted)
-Holds base wanted after NoRoom = 1024 < length wanted
+Holds base wanted after (Count k) = (k ≤ NODES) × (stack after base k ≡ wanted)
+Holds base wanted after NoRoom = NODES < length wanted
 
 -- the side at `base` became the stack that is wanted, or has no room for it, and nothing else has changed
 pub record Became (base : ℕ) (wanted : List (Node Exp)) (w after : List ℕ) (r : Pushed) : Type 0 where
   pub holds : Holds base wanted after r
-  pub kept : Kept base 3072 w after
+  pub kept : Kept base SIDE w after
 
 -- the nodes ms were pushed, one after the other, on a side of n nodes
 abbrev pub Took : ℕ → ℕ → List (Node Exp) → List ℕ → List ℕ → Pushed → Type 0

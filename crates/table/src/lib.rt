@@ -8,11 +8,34 @@ ghost use Rattle.table.specs.Nodes.{nodeOf, nodeAt, withNode, stack, sid
 ghost use Rattle.table.specs.Sides.{told, Reindexed, Room, Became, Took};
 ghost use Rattle.table.specs.Answer.{Says};
 
+// The places of the table: where each rule begins, where each line's left begins, and where its right does; the words of a filling that
+// stays empty, of the line's own filling, of a use's; and the two sides of a comparison.
+pub const RULES: usize = 0;
+
+pub const LEFTS: usize = 256;
+
+pub const RIGHTS: usize = 512;
+
+pub const EMPTY: usize = 768;
+
+pub const OWN: usize = 832;
+
+pub const USED: usize = 896;
+
+pub const FIRST: usize = 1024;
+
+pub const SECOND: usize = 4096;
+
+// How many words the table has, and how many nodes a side.
+pub const WORDS: usize = 8192;
+
+pub const NODES: usize = 1024;
+
 // A node to be pushed: a variable, a symbol with arguments, or a power of a symbol with its numbers a and b.
 pub enum Item {
     Variable(u16),
     Symbol(u16),
-    Power(u16, u64, u64),
+    Power { symbol: u16, a: u64, b: u64 },
 }
 
 // How many nodes the side holds after a push, or that it would have to hold more than 1,024.
@@ -32,7 +55,11 @@ fn times(a: u16, i: u16) -> u64
 pub fn reindexed(s: u16, a: u16, b: u16, i: u16, j: u16) -> Item
     ensures { λ r. ⌜ Reindexed s a b i j r ⌝ }
 {
-    Item::Power(s, times(a, i), times(a, j) + (b as u64))
+    Item::Power {
+        symbol: s,
+        a: times(a, i),
+        b: times(a, j) + (b as u64),
+    }
 }
 
 // The three words of a node.
@@ -50,7 +77,7 @@ fn store(w: &mut [u64], base: usize, n: usize, code: u64, a: u64, b: u64) -> Pus
     requires { ⌜ Room base n (now w) ⌝ }
     ensures { λ r. ⌜ Became base (nodeOf code a b ∷ stack (now (w .entry)) base n) (now (w .entry)) (now (w .exit)) r ⌝ }
 {
-    if n == 1024 {
+    if n == NODES {
         return Pushed::NoRoom;
     }
     write_node(w, base + 3 * n, code, a, b);
@@ -97,7 +124,7 @@ pub fn push(w: &mut [u64], base: usize, n: usize, node: Item) -> Pushed
     match node {
         Item::Variable(x) => store(w, base, n, 3 * (x as u64), 0, 0),
         Item::Symbol(f) => store(w, base, n, 3 * (f as u64) + 1, 0, 0),
-        Item::Power(s, a, b) => push_power(w, base, n, s, a, b),
+        Item::Power { symbol: s, a, b } => push_power(w, base, n, s, a, b),
     }
 }
 

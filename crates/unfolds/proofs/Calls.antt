@@ -17,30 +17,31 @@ use Rattle.patterns.specs.Checks.{instance, instance-mark}
 use Rattle.patterns.specs.Judge.{Check, compare, pending, parts}
 use Rattle.grammar.specs.Listing.{if-any, term-fields, use-fields}
 use Rattle.grammar.specs.Limits.{RootFits, LastFits}
-use Rattle.checking.specs.declared.Read.{Read}
-use Rattle.checking.specs.declared.Found.{Found}
-use Rattle.checking.specs.declared.Found.the-variants.{Fault, Good}
-use Rattle.checking.specs.declared.Kind.the-variants.{Unfold}
-use Rattle.checking.specs.declared.Behind.{Behind}
-use Rattle.checking.specs.declared.Behind.the-variants.{Pending, Nothing}
-use Rattle.checking.specs.declared.Asked.the-variants.{Led}
-use Rattle.checking.specs.declared.Instance.{Instance}
-use Rattle.checking.specs.declared.Subject.{Subject}
-use Rattle.checking.specs.declared.Subject.the-variants.{Call, Used}
+use Rattle.instances.specs.declared.Read.{Read}
+use Rattle.comparing.specs.declared.Found.{Found}
+use Rattle.comparing.specs.declared.Found.the-variants.{Fault, Good}
+use Rattle.comparing.specs.declared.Kind.the-variants.{Unfold}
+use Rattle.comparing.specs.declared.Behind.{Behind}
+use Rattle.comparing.specs.declared.Behind.the-variants.{Pending, Nothing}
+use Rattle.comparing.specs.declared.Asked.the-variants.{Led}
+use Rattle.begins.specs.declared.Instance.{Instance}
+use Rattle.comparing.specs.declared.Subject.{Subject}
+use Rattle.comparing.specs.declared.Subject.the-variants.{Call, Used}
 use Rattle.instances.specs.Lying.{Lies, behind}
-use Rattle.checking.specs.Placed.{Takes}
-use Rattle.checking.specs.Known.{Uses, ReadsUse}
-use Rattle.checking.specs.Subjects.{Means, PlainRight, UsedRight}
-use Rattle.checking.specs.Found.{Finds}
-use Rattle.checking.specs.Rights.{lead}
-use Rattle.checking.specs.Asked.{asked-at, checks-of, end-of, Checks}
-use Rattle.unfolds.specs.Unfoldings.{BehindStop, EndsAt, CallsAt, Unfolding, StopsBy, PartBy, EndsBy, EndsUsed, Ends}
+use Rattle.instances.specs.Taking.{Takes}
+use Rattle.begins.specs.Known.{Uses, ReadsUse}
+use Rattle.comparing.specs.Subjects.{Means, PlainRight, UsedRight}
+use Rattle.comparing.specs.Found.{Finds}
+use Rattle.comparing.specs.Rights.{lead}
+use Rattle.comparing.specs.Asked.{asked-at, checks-of, end-of, Checks}
+use Rattle.begins.specs.Placed.{CallsAt}
+use Rattle.unfolds.specs.Unfoldings.{BehindStop, EndsAt, Unfolding, StopsBy, PartBy, EndsBy, EndsUsed, Ends}
 use Rattle.instances.proofs.Lying.{lies-front}
-use Rattle.checking.proofs.Using.{rest-at}
-use Rattle.checking.proofs.Frames.{below-then, below-less, known-below, scene-below, uses-below}
-use Rattle.checking.proofs.Meanings.{call-means, used-means, right-itself}
-use Rattle.checking.proofs.Finding.{finds-fault, finds-last, finds-stop, finds-then, finds-ending}
-use Rattle.unfolds.proofs.Naming.{named, finds-given}
+use Rattle.instances.proofs.Taking.{rest-at}
+use Rattle.begins.proofs.Frames.{below-then, below-less, known-below, scene-below, uses-below}
+use Rattle.comparing.proofs.Meanings.{call-means, used-means, right-itself}
+use Rattle.comparing.proofs.Finding.{finds-fault, finds-last, finds-stop, finds-then, finds-ending, finds-given}
+use Rattle.patterns.proofs.Every.{below-listed}
 
 -- ---- what stands behind the call where an unfold stops
 
@@ -142,11 +143,11 @@ pub ends-used : {book cert w v after : List ℕ} {right j count call at : ℕ} {
 unfolding parts
 ends-used {book} {cert} {w} {v} {after} {right} {j} {count} {call} {at} {used} {r} read ends = record {
   told = λ ars B es θ m t ts U u fits lies.
-      let n = named es (u .line) (fits .earlier) in
-      let x = read .told ars B es (U .scene .known) (length es) u (n .claim) fits lies (n .found) in
-      finds-given _ (n .found)
+      let n = below-listed es (u .line) (fits .earlier) in
+      let x = read .told ars B es (U .scene .known) (length es) u (n .0) fits lies (n .1) in
+      finds-given _ (n .1)
       (finds-ending (x .1)
-      (ends .told ars B es θ m t ts (record { scene = scene-below (read .below) (U .scene); right-at = U .right-at; calls-at = U .calls-at }) u (n .claim) (x .0)));
+      (ends .told ars B es θ m t ts (record { scene = scene-below (read .below) (U .scene); right-at = U .right-at; calls-at = U .calls-at }) u (n .0) (x .0)));
   below = below-then (read .below) (ends .below);
 }
 

@@ -11,33 +11,36 @@ use Rattle.bits.proofs.Groups.{width-append}
 use Rattle.patterns.specs.Term.{fill}
 use Rattle.patterns.specs.First.{Exp, Pattern, Pair, one}
 use Rattle.patterns.specs.Every.{Every}
+use Rattle.patterns.proofs.Every.{below-listed, map-listed}
 use Rattle.patterns.specs.Derive.{Rule, Book}
 use Rattle.patterns.specs.Certificate.{Fills, by, Mark, Claim, Use, Stop, fact, call, unfolds}
 use Rattle.patterns.specs.Judge.{Check, compare, parts, stops, line-checks}
 use Rattle.grammar.specs.Listing.{Fields, if-any, term-fields, use-fields, filling-fields, stop-fields, stop-number, kind-fields}
-use Rattle.grammar.specs.Limits.{UseFits, LastFits, StopFits, KindFits}
-use Rattle.checking.specs.declared.Read.{Read}
-use Rattle.checking.specs.declared.Found.{Found}
-use Rattle.checking.specs.declared.Found.the-variants.{Fault, Good}
-use Rattle.checking.specs.declared.Kind.the-variants.{Unfold}
-use Rattle.checking.specs.declared.Behind.the-variants.{Judged, Nothing}
-use Rattle.checking.specs.declared.Instance.{Instance}
-use Rattle.checking.specs.declared.Subject.the-variants.{Empty, Call, Plain}
+use Rattle.grammar.specs.Limits.{UseFits, LastFits, StopFits, KindFits, call-counts}
+use Rattle.table.specs.Places.{OWN}
+use Rattle.instances.specs.declared.Read.{Read}
+use Rattle.comparing.specs.declared.Found.{Found}
+use Rattle.comparing.specs.declared.Found.the-variants.{Fault, Good}
+use Rattle.comparing.specs.declared.Kind.the-variants.{Unfold}
+use Rattle.comparing.specs.declared.Behind.the-variants.{Judged, Nothing}
+use Rattle.begins.specs.declared.Instance.{Instance}
+use Rattle.comparing.specs.declared.Subject.the-variants.{Empty, Call, Plain}
 use Rattle.instances.specs.Lying.{Lies, behind}
-use Rattle.fillings.specs.Listings.{Lists}
-use Rattle.checking.specs.Placed.{Takes, RightAt, LeftAt, RuleAt}
-use Rattle.checking.specs.Known.{Scene, ReadsUse}
-use Rattle.checking.specs.Subjects.{Means}
-use Rattle.checking.specs.Found.{Finds}
-use Rattle.checking.specs.Rights.{lead}
-use Rattle.checking.specs.Asked.{asked-at, checks-of, end-of, Checks}
-use Rattle.unfolds.specs.Unfoldings.{CallsAt, Unfolding, StopsBy, PartBy, Ends, Parts, Stops, UnfoldsBy, UnfoldAt}
+use Rattle.instances.specs.Listings.{Lists}
+use Rattle.begins.specs.Placed.{RightAt, LeftAt, RuleAt, CallsAt}
+use Rattle.instances.specs.Taking.{Takes}
+use Rattle.begins.specs.Known.{Scene, ReadsUse}
+use Rattle.comparing.specs.Subjects.{Means}
+use Rattle.comparing.specs.Found.{Finds}
+use Rattle.comparing.specs.Rights.{lead}
+use Rattle.comparing.specs.Asked.{asked-at, checks-of, end-of, Checks}
+use Rattle.unfolds.specs.Unfoldings.{Unfolding, StopsBy, PartBy, Ends, Parts, Stops, UnfoldsBy, UnfoldAt}
 use Rattle.instances.proofs.Lying.{lies-front, lies-back}
-use Rattle.checking.proofs.Using.{rest-at}
-use Rattle.checking.proofs.Frames.{below-then, below-less, kept-below, known-below, scene-below}
-use Rattle.checking.proofs.Meanings.{call-means, left-itself}
-use Rattle.checking.proofs.Finding.{finds-stop, finds-then, finds-ending}
-use Rattle.unfolds.proofs.Naming.{named, finds-given, head-lies, calls-at, named-rule}
+use Rattle.instances.proofs.Taking.{rest-at}
+use Rattle.begins.proofs.Frames.{below-then, below-less, kept-below, known-below, scene-below}
+use Rattle.comparing.proofs.Meanings.{call-means, left-itself}
+use Rattle.comparing.proofs.Finding.{finds-stop, finds-then, finds-ending, finds-given}
+use Rattle.begins.proofs.Calling.{head-lies, calls-at}
 
 -- ---- the parts from j on
 
@@ -74,14 +77,14 @@ module _ {book cert w v after : List ℕ} {j call at : ℕ} {used : Instance} {r
         → Finds (parts one es θ j (t ∷ ts) (u ∷ us) last m) end s
     unfolding parts lead
     one-part us last {u} gs fits lies {end} {s} rest =
-        let n = named es (u .line) (fits .earlier) in
-        let x = read .told ars B es (U .scene .known) (length es) u (n .claim) fits (lies-front cert at (use-fields u) gs lies) (n .found) in
-        finds-given _ (n .found) (rest _ (part .told ars B es θ (scene-below (read .below) (U .scene)) t ts count (U .calls-at) u (n .claim) (x .0)))
+        let n = below-listed es (u .line) (fits .earlier) in
+        let x = read .told ars B es (U .scene .known) (length es) u (n .0) fits (lies-front cert at (use-fields u) gs lies) (n .1) in
+        finds-given _ (n .1) (rest _ (part .told ars B es θ (scene-below (read .below) (U .scene)) t ts count (U .calls-at) u (n .0) (x .0)))
 
     part-ends : {u : Use Exp Pair} (gs : Fields) → UseFits ars (length es) u → Lies cert at (use-fields u ++ gs) → used .end ≡ at + width (use-fields u)
     part-ends {u} gs fits lies =
-        let n = named es (u .line) (fits .earlier) in
-        read .told ars B es (U .scene .known) (length es) u (n .claim) fits (lies-front cert at (use-fields u) gs lies) (n .found) .1
+        let n = below-listed es (u .line) (fits .earlier) in
+        read .told ars B es (U .scene .known) (length es) u (n .0) fits (lies-front cert at (use-fields u) gs lies) (n .1) .1
 
   pub parts-fault : {right count before n p : ℕ} → before ≢ 0 → r ≡ Fault n p → Parts book cert right j count before call at w after (Fault n p)
   unfolding flatMap Every
@@ -187,20 +190,20 @@ module _ {book cert w v : List ℕ} {left right : ℕ} (k : ℕ) {at : ℕ} {c :
 -- ---- an unfold behind its claim
 
 pub unfold-at : {book cert w v after : List ℕ} {left right at uses : ℕ} {c d : Read} {r : Found} → Takes cert 8 at c → Takes cert 4 (c .at) d
-    → Lists book cert 832 (d .at) w v uses → UnfoldsBy book cert left right (c .value) (d .value) uses v after r → UnfoldAt book cert left right at w after r
-unfolding kind-fields KindFits width
+    → Lists book cert OWN (d .at) w v uses → UnfoldsBy book cert left right (c .value) (d .value) uses v after r → UnfoldAt book cert left right at w after r
+unfolding kind-fields KindFits call-counts width
 unfold-at {book} {cert} {w} {v} {after} {left} {right} {at} {uses} {c} {d} {r} tc td f p = record {
   told = λ ars B es known l L R k θ s fits lies.
       let x = tc .told k _ lies in
       let y = td .told (stop-number s) _ (rest-at tc lies) in
       let both = rest-at td (rest-at tc lies) in
       let g = f .told ars (known .arity) θ (fits .2) (lies-front cert (d .at) (filling-fields θ) (stop-fields s) both) in
-      let n = named-rule B k (fits .0) (fits .1) in
+      let n = map-listed (λ r. length (r .calls)) B k (fits .0) (fits .1) in
       let scene : Scene book cert v ars B es θ = record { known = known-below (kept-below (f .kept)) known; own = g .0 } in
       let stop = subst (λ j. Lies cert j (stop-fields s)) (sym (g .1)) (lies-back cert (d .at) (filling-fields θ) (stop-fields s) both) in
       finds-ending (omega (arith, x .1, y .1, g .1, width-append (filling-fields θ) (stop-fields s)))
       (subst (λ j. Finds (line-checks one es B l (unfolds j θ s)) (uses + width (stop-fields s)) r) (x .0)
-      (p .told ars B es θ scene l L R (n .rule) (subst (λ j. getElem? B j ≡ some (n .rule)) (sym (x .0)) (n .found)) s (sym (y .0))
-      (subst (λ j. StopFits ars (length es) j s) (sym (n .calls)) (fits .3)) stop));
+      (p .told ars B es θ scene l L R (n .0) (subst (λ j. getElem? B j ≡ some (n .0)) (sym (x .0)) (n .1)) s (sym (y .0))
+      (subst (λ j. StopFits ars (length es) j s) (sym (n .2)) (fits .3)) stop));
   below = below-then (kept-below (f .kept)) (below-less (omega arith) (p .below));
 }

@@ -1,11 +1,13 @@
 // The checks of an unfold.
-use checking::Behind;
-use checking::Found;
-use checking::Instance;
-use checking::Kind;
-use checking::Subject;
+use begins::Instance;
+use comparing::Behind;
+use comparing::Found;
+use comparing::Kind;
+use comparing::Subject;
+use table::OWN;
 ghost use Prim.Native.Nat.{_+_, _≤_, _<_};
 ghost use lib.ListN.{length};
+ghost use Rattle.table.specs.Places.{WORDS, ROWS};
 ghost use Rattle.unfolds.specs.Unfoldings.{BehindStop, EndsAt, StopsBy, PartBy, EndsBy, EndsUsed, Ends, Parts, Stops, UnfoldsBy, UnfoldAt};
 
 // What stands behind the call where an unfold stops, the j-th of `count`.
@@ -23,7 +25,7 @@ fn ending(found: Found, at: usize) -> Found
     ensures { λ r. ⌜ EndsAt found at r ⌝ }
 {
     match found {
-        Found::Fault(n, p) => Found::Fault(n, p),
+        Found::Fault { number: n, part: p } => Found::Fault { number: n, part: p },
         Found::Good(_) => Found::Good(at),
     }
 }
@@ -37,11 +39,11 @@ fn stop_by(
     theirs: Subject,
     at: usize,
 ) -> Found
-    requires { ⌜ 8192 ≤ length (now w) ⌝ }
+    requires { ⌜ WORDS ≤ length (now w) ⌝ }
     ensures { λ r. ⌜ StopsBy (now (book .entry)) (now (certificate .entry)) right theirs at (now (w .entry)) (now (w .exit)) r ⌝ }
 {
-    let own = checking::plain_right(certificate, right, 1, 0);
-    let found = checking::check(
+    let own = comparing::plain_right(certificate, right, 1, 0);
+    let found = comparing::check(
         book,
         certificate,
         w,
@@ -65,11 +67,15 @@ fn part_by(
     call: usize,
     used: Instance,
 ) -> Found
-    requires { ⌜ 8192 ≤ length (now w) ⌝ }
+    requires { ⌜ WORDS ≤ length (now w) ⌝ }
     ensures { λ r. ⌜ PartBy (now (book .entry)) (now (certificate .entry)) j behind call used (now (w .entry)) (now (w .exit)) r ⌝ }
 {
-    let theirs = Subject::Used(used.left, used.i, used.j);
-    checking::check(
+    let theirs = Subject::Used {
+        at: used.left,
+        i: used.i,
+        j: used.j,
+    };
+    comparing::check(
         book,
         certificate,
         w,
@@ -93,14 +99,14 @@ fn last_by(
     call: usize,
     used: Instance,
 ) -> Found
-    requires { ⌜ 8192 ≤ length (now w) ⌝ }
+    requires { ⌜ WORDS ≤ length (now w) ⌝ }
     ensures { λ r. ⌜ EndsBy (now (book .entry)) (now (certificate .entry)) right j count call used (now (w .entry)) (now (w .exit)) r ⌝ }
 {
-    let theirs = checking::used_right(certificate, used.right, used.i, used.j);
+    let theirs = comparing::used_right(certificate, used.right, used.i, used.j);
     let end = used.end;
     let behind = behind_stop(j, count);
     match part_by(book, certificate, w, j, behind, call, used) {
-        Found::Fault(n, p) => Found::Fault(n, p),
+        Found::Fault { number: n, part: p } => Found::Fault { number: n, part: p },
         Found::Good(_) => stop_by(book, certificate, w, right, theirs, end),
     }
 }
@@ -116,10 +122,10 @@ fn last_used(
     call: usize,
     at: usize,
 ) -> Found
-    requires { ⌜ 8192 ≤ length (now w) ⌝ }
+    requires { ⌜ WORDS ≤ length (now w) ⌝ }
     ensures { λ r. ⌜ EndsUsed (now (book .entry)) (now (certificate .entry)) right j count call at (now (w .entry)) (now (w .exit)) r ⌝ }
 {
-    let used = checking::read_use(book, certificate, w, at);
+    let used = begins::read_use(book, certificate, w, at);
     last_by(book, certificate, w, right, j, count, call, used)
 }
 
@@ -134,10 +140,10 @@ fn last(
     call: usize,
     at: usize,
 ) -> Found
-    requires { ⌜ 8192 ≤ length (now w) ⌝ }
+    requires { ⌜ WORDS ≤ length (now w) ⌝ }
     ensures { λ r. ⌜ Ends (now (book .entry)) (now (certificate .entry)) right j count call at (now (w .entry)) (now (w .exit)) r ⌝ }
 {
-    let any = checking::field(certificate, 1, at);
+    let any = instances::field(certificate, 1, at);
     let use_at = any.at;
     if any.value == 0 {
         return stop_by(book, certificate, w, right, Subject::Call(call), use_at);
@@ -157,16 +163,16 @@ fn parts(
     call: usize,
     at: usize,
 ) -> Found
-    requires { ⌜ (8192 ≤ length (now w)) × (j + before ≤ 16) ⌝ }
+    requires { ⌜ (WORDS ≤ length (now w)) × (j + before ≤ 16) ⌝ }
     ensures { λ r. ⌜ Parts (now (book .entry)) (now (certificate .entry)) right j count before call at (now (w .entry)) (now (w .exit)) r ⌝ }
 {
     if before == 0 {
         return last(book, certificate, w, right, j, count, call, at);
     }
-    let used = checking::read_use(book, certificate, w, at);
+    let used = begins::read_use(book, certificate, w, at);
     let end = used.end;
     match part_by(book, certificate, w, j, Behind::Judged, call, used) {
-        Found::Fault(n, p) => Found::Fault(n, p),
+        Found::Fault { number: n, part: p } => Found::Fault { number: n, part: p },
         Found::Good(next) => parts(
             book,
             certificate,
@@ -192,7 +198,7 @@ fn stop(
     call: usize,
     at: usize,
 ) -> Found
-    requires { ⌜ (8192 ≤ length (now w)) × (i ≤ 15) ⌝ }
+    requires { ⌜ (WORDS ≤ length (now w)) × (i ≤ 15) ⌝ }
     ensures { λ r. ⌜ Stops (now (book .entry)) (now (certificate .entry)) right i count call at (now (w .entry)) (now (w .exit)) r ⌝ }
 {
     if i == 0 {
@@ -212,13 +218,13 @@ fn unfold_by(
     i: usize,
     at: usize,
 ) -> Found
-    requires { ⌜ (8192 ≤ length (now w)) × (k < 256) × (i ≤ 15) ⌝ }
+    requires { ⌜ (WORDS ≤ length (now w)) × (k < ROWS) × (i ≤ 15) ⌝ }
     ensures { λ r. ⌜ UnfoldsBy (now (book .entry)) (now (certificate .entry)) left right k i at (now (w .entry)) (now (w .exit)) r ⌝ }
 {
-    let calls = checking::field(book, 4, checking::noted(w, k));
+    let calls = instances::field(book, 4, begins::noted(w, k));
     let count = calls.value as usize;
     let head = Subject::Call(calls.at);
-    match checking::check(
+    match comparing::check(
         book,
         certificate,
         w,
@@ -227,9 +233,13 @@ fn unfold_by(
         right,
         Behind::Nothing,
         head,
-        Subject::Plain(left, 1, 0),
+        Subject::Plain {
+            at: left,
+            i: 1,
+            j: 0,
+        },
     ) {
-        Found::Fault(n, p) => Found::Fault(n, p),
+        Found::Fault { number: n, part: p } => Found::Fault { number: n, part: p },
         Found::Good(call) => stop(book, certificate, w, right, i, count, call, at),
     }
 }
@@ -243,13 +253,13 @@ pub fn unfold(
     right: usize,
     at: usize,
 ) -> Found
-    requires { ⌜ 8192 ≤ length (now w) ⌝ }
+    requires { ⌜ WORDS ≤ length (now w) ⌝ }
     ensures { λ r. ⌜ UnfoldAt (now (book .entry)) (now (certificate .entry)) left right at (now (w .entry)) (now (w .exit)) r ⌝ }
 {
-    let rule = checking::field(certificate, 8, at);
+    let rule = instances::field(certificate, 8, at);
     let k = rule.value as usize;
-    let stop = checking::field(certificate, 4, rule.at);
+    let stop = instances::field(certificate, 4, rule.at);
     let i = stop.value as usize;
-    let uses = fillings::list_filling(book, certificate, w, 832, stop.at);
+    let uses = instances::fillings::list_filling(book, certificate, w, OWN, stop.at);
     unfold_by(book, certificate, w, left, right, k, i, uses)
 }

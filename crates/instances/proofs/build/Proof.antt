@@ -1,62 +1,60 @@
 -- `instances::build` meets its contract. The loop's invariant: what the nodes met so far give was pushed.
 use borrow.Author.Needs.{needs}
-use native.Mathlib.Omega.{arith}
 use Rattle.instances.specs.Filled.{filled}
+use Rattle.instances.proofs.Goings.{going-left}
 use Rattle.instances.proofs.Pushings.{Pushing, pushing-start, pushing-full, pushing-on}
-use Rattle.instances.proofs.Instances.{step-filled, building-fits, built-done, built-out, built-full}
+use Rattle.instances.proofs.Instances.{step-filled, building-fits, built-over, built-full}
+use native.Mathlib.Omega.{arith}
 use Rattle.instances.proofs.build.Statement.{statement}
 use Rattle.instances.proofs.build.Tie as tie
 
 abbrev Inv-loop : tie.InvT-loop
-Inv-loop book s certificate w₀ base at i j fills n₀ p₀ left₀ w n p left = Pushing (filled book certificate w₀ fills i j) book s at base 0 w₀ w n left p
+Inv-loop book s certificate w₀ base at i j fills nodes₀ p₀ left₀ w nodes p left = Pushing (filled book certificate w₀ fills i j) book s at base 0 w₀ w nodes left p
 
 abbrev μ-loop : tie.MeasureT-loop
-μ-loop book s certificate w₀ base at i j fills n₀ p₀ left₀ w n p left = left
+μ-loop book s certificate w₀ base at i j fills nodes₀ p₀ left₀ w nodes p left = left
 
 loop-holds : tie.Need-loop-holds Inv-loop μ-loop
 loop-holds c = pushing-start _ _ _ _ _ _ _ (omega arith)
+
+step-requires : tie.Need-step-requires Inv-loop μ-loop
+step-requires c κs = c .loop .inv .few
+
+enum-known-header : tie.Need-enum-known-header Inv-loop μ-loop
+enum-known-header c = search needs
+
+enum-told : tie.Need-enum-told Inv-loop μ-loop
+enum-told c = search needs
 
 same-length : tie.Need-same-length Inv-loop μ-loop
 same-length c = search needs
 
 returns : tie.Need-returns Inv-loop μ-loop
-returns c = built-done _ _ _ _ _ _ _ _ _ _ _ _ _ (c .before .before .loop .inv) (c .if1 .taken)
-
-header-at-requires : tie.Need-header-at-requires Inv-loop μ-loop
-header-at-requires c κs = search needs
+returns c = built-over _ _ _ _ _ _ _ _ _ _ (c .before .before .before .loop .inv) (c .before .before .step .ensures) (c .enum-told .given .1)
 
 push-filled-requires : tie.Need-push-filled-requires Inv-loop μ-loop
-push-filled-requires c κs = building-fits _ _ _ _ _ _ _ _ _ _ _ _ _ (c .before .before .before .before .loop .inv) (c .before .before .before .before .before .before .before .before .before .pre) (omega arith) (omega arith)
+push-filled-requires c κs = building-fits _ _ _ _ _ _ _ _ _ _ _ _ _ (c .before .before .before .before .before .loop .inv) (c .before .before .before .before .before .before .before .before .before .before .pre) (omega arith) (omega arith)
 
 enum-known-k : tie.Need-enum-known-k Inv-loop μ-loop
 enum-known-k c = search needs
 
-enum-told : tie.Need-enum-told Inv-loop μ-loop
-enum-told c = search needs
+enum-told-2 : tie.Need-enum-told-2 Inv-loop μ-loop
+enum-told-2 c = search needs
 
 same-length-2 : tie.Need-same-length-2 Inv-loop μ-loop
 same-length-2 c = search needs
 
 returns-2 : tie.Need-returns-2 Inv-loop μ-loop
-returns-2 c = built-full _ _ _ _ _ _ _ _ _ _ (pushing-full _ _ _ _ _ _ _ _ _ _ _ (c .before .before .before .before .before .before .before .before .before .loop .inv) _ (c .before .before .before .before .before .before .before .before .loop-test .taken) (c .before .before .before .before .before .before .before .if1 .left) (c .before .before .before .before .before .before .header-at .ensures) _ _ (step-filled _ _ _ _ _ _ _ _ (c .before .before .before .before .before .before .before .before .before .before .before .before .before .before .pre .1) (c .before .before .before .before .before .before .before .before .before .loop .inv .took .kept) (c .before .before .before .before .push-filled .ensures)) (c .enum-told .given .1))
-
-next-requires : tie.Need-next-requires Inv-loop μ-loop
-next-requires c κs = search needs
+returns-2 c = built-full _ _ _ _ _ _ _ _ _ _ (pushing-full _ _ _ _ _ _ _ _ _ _ _ (c .before .before .before .before .before .before .before .before .before .before .loop .inv) (c .before .before .before .before .before .before .before .before .before .step .ensures) (c .before .before .before .before .before .before .before .header .given .1) (step-filled _ _ _ _ _ _ _ _ (c .before .before .before .before .before .before .before .before .before .before .before .before .before .before .before .pre .1) (c .before .before .before .before .before .before .before .before .before .before .loop .inv .holds .kept) (c .before .before .before .before .push-filled .ensures)) (c .enum-told2 .given .1))
 
 sub-left : tie.Need-sub-left Inv-loop μ-loop
-sub-left c = search needs
+sub-left c = going-left (c .before .before .before .before .before .before .before .before .before .before .before .loop .inv) (c .before .before .before .before .before .before .before .before .before .before .step .ensures) (c .before .before .before .before .before .before .before .before .header .given .1)
 
 loop-less : tie.Need-loop-less Inv-loop μ-loop
-loop-less c = search needs
+loop-less c = omega (arith, going-left (c .before .before .before .before .before .before .before .before .before .before .before .loop .inv) (c .before .before .before .before .before .before .before .before .before .before .step .ensures) (c .before .before .before .before .before .before .before .before .header .given .1))
 
 loop-again : tie.Need-loop-again Inv-loop μ-loop
-loop-again c = pushing-on _ _ _ _ _ _ _ _ _ _ _ (c .before .before .before .before .before .before .before .before .before .before .before .loop .inv) _ (c .before .before .before .before .before .before .before .before .before .before .loop-test .taken) (c .before .before .before .before .before .before .before .before .before .if1 .left) (c .before .before .before .before .before .before .before .before .header-at .ensures) _ _ (step-filled _ _ _ _ _ _ _ _ (c .before .before .before .before .before .before .before .before .before .before .before .before .before .before .before .before .pre .1) (c .before .before .before .before .before .before .before .before .before .before .before .loop .inv .took .kept) (c .before .before .before .before .before .before .push-filled .ensures)) _ _ (c .before .before .k .given .1) (c .next .ensures)
-
-same-length-3 : tie.Need-same-length-3 Inv-loop μ-loop
-same-length-3 c = search needs
-
-returns-3 : tie.Need-returns-3 Inv-loop μ-loop
-returns-3 c = built-out _ _ _ _ _ _ _ _ _ _ _ _ _ (c .before .loop .inv) (c .loop-test .left)
+loop-again c = pushing-on _ _ _ _ _ _ _ _ _ _ _ (c .before .before .before .before .before .before .before .before .before .before .before .loop .inv) (c .before .before .before .before .before .before .before .before .before .before .step .ensures) (c .before .before .before .before .before .before .before .before .header .given .1) (step-filled _ _ _ _ _ _ _ _ (c .before .before .before .before .before .before .before .before .before .before .before .before .before .before .before .before .pre .1) (c .before .before .before .before .before .before .before .before .before .before .before .loop .inv .holds .kept) (c .before .before .before .before .before .push-filled .ensures)) (c .before .k .given .1)
 
 pub build-spec : {M : Type 1} → statement M
 build-spec =
@@ -65,17 +63,16 @@ build-spec =
     Inv-loop
     μ-loop
     loop-holds
+    step-requires
+    enum-known-header
+    enum-told
     same-length
     returns
-    header-at-requires
     push-filled-requires
     enum-known-k
-    enum-told
+    enum-told-2
     same-length-2
     returns-2
-    next-requires
     sub-left
     loop-less
-    loop-again
-    same-length-3
-    returns-3)
+    loop-again)

@@ -1,41 +1,39 @@
--- `instances::skip` meets its contract. The loop's invariant: the nodes met so far and the rest of the walk are the whole walk.
+-- `instances::skip` meets its contract. The loop's invariant: the walk is under way.
 use borrow.Author.Needs.{needs}
-use mathlib.Core.List.{List, []}
-use Rattle.patterns.specs.Term.{Node}
-use Rattle.patterns.specs.First.{Exp}
-use Rattle.instances.proofs.Goings.{Going, going-start, going-done, going-out, going-on, skipped}
+use Rattle.instances.proofs.Goings.{Going, going-start, going-over, going-left, going-on, skipped}
+use native.Mathlib.Omega.{arith}
 use Rattle.instances.proofs.skip.Statement.{statement}
 use Rattle.instances.proofs.skip.Tie as tie
 
 abbrev Inv-loop : tie.InvT-loop
-Inv-loop book s at p₀ left₀ p left = (met : List (Node Exp)) × Going book s at met left p
+Inv-loop book s at p₀ left₀ p left = Going (λ met. Unit {0}) book s at left p
 
 abbrev μ-loop : tie.MeasureT-loop
 μ-loop book s at p₀ left₀ p left = left
 
 loop-holds : tie.Need-loop-holds Inv-loop μ-loop
-loop-holds c = ([], going-start _ _ _)
+loop-holds c = going-start _ _ _ tt
+
+step-requires : tie.Need-step-requires Inv-loop μ-loop
+step-requires c κs = c .loop .inv .few
+
+enum-known-place : tie.Need-enum-known-place Inv-loop μ-loop
+enum-known-place c = search needs
+
+enum-told : tie.Need-enum-told Inv-loop μ-loop
+enum-told c = search needs
 
 returns : tie.Need-returns Inv-loop μ-loop
-returns c = skipped _ _ _ _ _ (going-done _ _ _ _ _ _ (c .before .before .loop .inv .1) (c .if1 .taken))
-
-header-at-requires : tie.Need-header-at-requires Inv-loop μ-loop
-header-at-requires c κs = search needs
-
-next-requires : tie.Need-next-requires Inv-loop μ-loop
-next-requires c κs = search needs
+returns c = skipped _ _ _ _ _ (going-over (c .before .before .before .loop .inv) (c .before .before .step .ensures) (c .enum-told .given .1))
 
 sub-left : tie.Need-sub-left Inv-loop μ-loop
-sub-left c = search needs
+sub-left c = going-left (c .before .before .before .before .loop .inv) (c .before .before .before .step .ensures) (c .before .place .given .1)
 
 loop-less : tie.Need-loop-less Inv-loop μ-loop
-loop-less c = search needs
+loop-less c = omega (arith, going-left (c .before .before .before .before .loop .inv) (c .before .before .before .step .ensures) (c .before .place .given .1))
 
 loop-again : tie.Need-loop-again Inv-loop μ-loop
-loop-again c = (_, going-on _ _ _ _ _ _ (c .before .before .before .before .loop .inv .1) _ (c .before .before .before .loop-test .taken) (c .before .before .if1 .left) (c .before .header-at .ensures) _ (c .next .ensures))
-
-returns-2 : tie.Need-returns-2 Inv-loop μ-loop
-returns-2 c = skipped _ _ _ _ _ (going-out _ _ _ _ _ _ (c .before .loop .inv .1) (c .loop-test .left))
+loop-again c = going-on (c .before .before .before .before .loop .inv) (c .before .before .before .step .ensures) (c .before .place .given .1) tt
 
 pub skip-spec : {M : Type 1} → statement M
 skip-spec =
@@ -44,10 +42,10 @@ skip-spec =
     Inv-loop
     μ-loop
     loop-holds
+    step-requires
+    enum-known-place
+    enum-told
     returns
-    header-at-requires
-    next-requires
     sub-left
     loop-less
-    loop-again
-    returns-2)
+    loop-again)

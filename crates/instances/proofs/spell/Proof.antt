@@ -1,7 +1,9 @@
 -- `instances::spell` meets its contract. The loop's invariant: the nodes met so far were pushed.
 use borrow.Author.Needs.{needs}
 use Rattle.instances.specs.Filled.{itself}
-use Rattle.instances.proofs.Pushings.{Pushing, pushing-start, pushing-done, pushing-out, pushing-full, pushing-on, spelling-fits, step-plain, spelled}
+use Rattle.instances.proofs.Goings.{going-left}
+use Rattle.instances.proofs.Pushings.{Pushing, pushing-start, pushing-over, pushing-full, pushing-on, spelling-fits, step-plain, spelled}
+use native.Mathlib.Omega.{arith}
 use Rattle.instances.proofs.spell.Statement.{statement}
 use Rattle.instances.proofs.spell.Tie as tie
 
@@ -14,47 +16,44 @@ abbrev μ-loop : tie.MeasureT-loop
 loop-holds : tie.Need-loop-holds Inv-loop μ-loop
 loop-holds c = pushing-start _ _ _ _ _ _ _ (c .before .before .before .pre .0 .few)
 
+step-requires : tie.Need-step-requires Inv-loop μ-loop
+step-requires c κs = c .loop .inv .few
+
+enum-known-header : tie.Need-enum-known-header Inv-loop μ-loop
+enum-known-header c = search needs
+
+enum-told : tie.Need-enum-told Inv-loop μ-loop
+enum-told c = search needs
+
 same-length : tie.Need-same-length Inv-loop μ-loop
 same-length c = search needs
 
 returns : tie.Need-returns Inv-loop μ-loop
-returns c = spelled _ _ _ _ (pushing-done _ _ _ _ _ _ _ _ _ _ _ (c .before .before .loop .inv) (c .if1 .taken))
-
-header-at-requires : tie.Need-header-at-requires Inv-loop μ-loop
-header-at-requires c κs = search needs
+returns c = spelled _ _ _ _ (pushing-over _ _ _ _ _ _ _ _ _ _ _ (c .before .before .before .loop .inv) (c .before .before .step .ensures) (c .enum-told .given .1))
 
 push-node-requires : tie.Need-push-node-requires Inv-loop μ-loop
-push-node-requires c κs = spelling-fits _ _ _ _ _ _ _ _ _ _ (c .before .before .before .before .loop .inv) (c .before .before .before .before .before .before .before .before .pre)
+push-node-requires c κs = spelling-fits _ _ _ _ _ _ _ _ _ _ (c .before .before .before .before .before .loop .inv) (c .before .before .before .before .before .before .before .before .before .pre)
 
 enum-known-k : tie.Need-enum-known-k Inv-loop μ-loop
 enum-known-k c = search needs
 
-enum-told : tie.Need-enum-told Inv-loop μ-loop
-enum-told c = search needs
+enum-told-2 : tie.Need-enum-told-2 Inv-loop μ-loop
+enum-told-2 c = search needs
 
 same-length-2 : tie.Need-same-length-2 Inv-loop μ-loop
 same-length-2 c = search needs
 
 returns-2 : tie.Need-returns-2 Inv-loop μ-loop
-returns-2 c = spelled _ _ _ _ (pushing-full _ _ _ _ _ _ _ _ _ _ _ (c .before .before .before .before .before .before .before .before .before .loop .inv) _ (c .before .before .before .before .before .before .before .before .loop-test .taken) (c .before .before .before .before .before .before .before .if1 .left) (c .before .before .before .before .before .before .header-at .ensures) _ _ (step-plain _ _ (c .before .before .before .before .push-node .ensures)) (c .enum-told .given .1))
-
-next-requires : tie.Need-next-requires Inv-loop μ-loop
-next-requires c κs = search needs
+returns-2 c = spelled _ _ _ _ (pushing-full _ _ _ _ _ _ _ _ _ _ _ (c .before .before .before .before .before .before .before .before .before .before .loop .inv) (c .before .before .before .before .before .before .before .before .before .step .ensures) (c .before .before .before .before .before .before .before .header .given .1) (step-plain _ _ (c .before .before .before .before .push-node .ensures)) (c .enum-told2 .given .1))
 
 sub-left : tie.Need-sub-left Inv-loop μ-loop
-sub-left c = search needs
+sub-left c = going-left (c .before .before .before .before .before .before .before .before .before .before .before .loop .inv) (c .before .before .before .before .before .before .before .before .before .before .step .ensures) (c .before .before .before .before .before .before .before .before .header .given .1)
 
 loop-less : tie.Need-loop-less Inv-loop μ-loop
-loop-less c = search needs
+loop-less c = omega (arith, going-left (c .before .before .before .before .before .before .before .before .before .before .before .loop .inv) (c .before .before .before .before .before .before .before .before .before .before .step .ensures) (c .before .before .before .before .before .before .before .before .header .given .1))
 
 loop-again : tie.Need-loop-again Inv-loop μ-loop
-loop-again c = pushing-on _ _ _ _ _ _ _ _ _ _ _ (c .before .before .before .before .before .before .before .before .before .before .before .loop .inv) _ (c .before .before .before .before .before .before .before .before .before .before .loop-test .taken) (c .before .before .before .before .before .before .before .before .before .if1 .left) (c .before .before .before .before .before .before .before .before .header-at .ensures) _ _ (step-plain _ _ (c .before .before .before .before .before .before .push-node .ensures)) _ _ (c .before .before .k .given .1) (c .next .ensures)
-
-same-length-3 : tie.Need-same-length-3 Inv-loop μ-loop
-same-length-3 c = search needs
-
-returns-3 : tie.Need-returns-3 Inv-loop μ-loop
-returns-3 c = spelled _ _ _ _ (pushing-out _ _ _ _ _ _ _ _ _ _ _ (c .before .loop .inv) (c .loop-test .left))
+loop-again c = pushing-on _ _ _ _ _ _ _ _ _ _ _ (c .before .before .before .before .before .before .before .before .before .before .before .loop .inv) (c .before .before .before .before .before .before .before .before .before .before .step .ensures) (c .before .before .before .before .before .before .before .before .header .given .1) (step-plain _ _ (c .before .before .before .before .before .push-node .ensures)) (c .before .k .given .1)
 
 pub spell-spec : {M : Type 1} → statement M
 spell-spec =
@@ -63,17 +62,16 @@ spell-spec =
     Inv-loop
     μ-loop
     loop-holds
+    step-requires
+    enum-known-header
+    enum-told
     same-length
     returns
-    header-at-requires
     push-node-requires
     enum-known-k
-    enum-told
+    enum-told-2
     same-length-2
     returns-2
-    next-requires
     sub-left
     loop-less
-    loop-again
-    same-length-3
-    returns-3)
+    loop-again)

@@ -9,7 +9,7 @@ use Rattle.unfolds.proofs.parts.Kinds as parts-kinds
 use Rattle.unfolds.proofs.+parts.Lts-parts as parts-lts
 use Rattle.unfolds.proofs.last.Reads as last-reads
 use Rattle.unfolds.proofs.part_by.Reads as part-by-reads
-use Rattle.checking.proofs.read_use.Reads as read-use-reads
+use Rattle.begins.proofs.read_use.Reads as read-use-reads
 use Rattle.unfolds.proofs.+parts.{statement}
 use Rattle.unfolds.proofs.+parts.Tie.{close}
 

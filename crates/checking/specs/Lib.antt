@@ -1,7 +1,0 @@
--- What the functions of this crate are held to.
-pub mod Placed
-pub mod Known
-pub mod Subjects
-pub mod Found
-pub mod Rights
-pub mod Asked

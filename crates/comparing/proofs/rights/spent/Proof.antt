@@ -1,0 +1,17 @@
+-- `comparing::rights::spent` meets its contract.
+use Rattle.comparing.proofs.Looking.{spent-met, spent-unmet}
+use borrow.Author.Needs.{needs}
+use Rattle.comparing.proofs.rights.spent.Statement.{statement}
+use Rattle.comparing.proofs.rights.spent.Tie as tie
+
+is-empty-requires : tie.Need-is-empty-requires
+is-empty-requires c κs = search needs
+
+returns : tie.Need-returns
+returns c = spent-met (c .before .is-empty .ensures) (c .if1 .taken)
+
+returns-2 : tie.Need-returns-2
+returns-2 c = spent-unmet (c .before .is-empty .ensures) (c .if1 .left)
+
+pub spent-spec : {M : Type 1} → statement M
+spent-spec = tie.close (tie.spec is-empty-requires returns returns-2)

@@ -1,0 +1,68 @@
+-- What is built for a comparison: the empty mark, a head or call of a rule filled by the line's own filling, a term of the certificate
+-- reindexed, or one reindexed and filled by a use's filling.
+use Prim.Native.Nat.{ℕ}
+use mathlib.Core.Path.{_≡_}
+use mathlib.Core.List.{List}
+use mathlib.Core.Option.{none, some}
+use Rattle.patterns.specs.Term.{Filling, fill}
+use Rattle.patterns.specs.Edition.{reindex}
+use Rattle.patterns.specs.Derive.{Book}
+use Rattle.patterns.specs.Certificate.{by, Mark, Use, Claim}
+use Rattle.patterns.specs.First.{Exp, Pattern, Pair, one}
+use Rattle.patterns.specs.Checks.{instance-mark, reindex-mark}
+use Rattle.patterns.specs.Demand.{small, same, Met}
+use Rattle.table.specs.Places.{EMPTY, OWN, USED, FIRST, SIDE}
+use Rattle.table.specs.Sides.{Kept}
+use Rattle.comparing.specs.declared.Subject.{Subject}
+use Rattle.comparing.specs.declared.Subject.the-variants.{Empty, Call, Plain, Used}
+use Rattle.comparing.specs.declared.Compared.{Compared}
+use Rattle.comparing.specs.declared.Compared.the-variants.{Equal, Unequal, TooBig}
+use Rattle.instances.specs.declared.Side.{Side}
+use Rattle.instances.specs.Lying.{TermAt, behind}
+use Rattle.instances.specs.Fillings.{Fills}
+use Rattle.instances.specs.Instances.{Stored, Few}
+use Rattle.begins.specs.Placed.{RightAt}
+use Rattle.begins.specs.Known.{Below, Known}
+
+-- an instance of the term at a bit of s, filled as the table at `fills` tells
+pub record InstanceAt (book s cert w : List ℕ) (at i j fills : ℕ) (m : Mark Exp) (end : ℕ) : Type 0 where
+  pub term : Pattern
+  pub filling : Filling Exp
+  pub lies : TermAt book s at term
+  pub filled : Fills book cert w fills filling
+  pub mark : m ≡ some (fill filling (reindex one (i, j) term))
+  pub ends : end ≡ behind at term
+
+-- the mark that a subject means, and the bit behind its term
+unfoldable pub Means : List ℕ → List ℕ → List ℕ → Subject → Mark Exp → ℕ → Type 0
+Means book cert w Empty m end = (m ≡ none) × (end ≡ 0)
+Means book cert w (Call at) m end = InstanceAt book book cert w at 1 0 OWN m end
+Means book cert w (Plain at i j) m end = InstanceAt book cert cert w at i j EMPTY m end
+Means book cert w (Used at i j) m end = InstanceAt book cert cert w at i j USED m end
+
+-- a side was built
+pub record Sided (book cert : List ℕ) (base : ℕ) (a : Subject) (w after : List ℕ) (r : Side) : Type 0 where
+  pub told : (m : Mark Exp) (end : ℕ) → Means book cert w a m end → Stored base m end after r
+  pub few : Few r
+  pub kept : Kept base SIDE w after
+
+-- what a comparison settles, where the first side's term ends at `end`
+unfoldable pub Settles : Mark Exp → Mark Exp → ℕ → Compared → Type 0
+Settles m k end (Equal e) = Met one (small m) × Met one (small k) × Met one (same m k) × (e ≡ end)
+Settles m k end Unequal = Met one (small m) × Met one (small k) × (¬ (Met one (same m k)))
+Settles m k end TooBig = ¬ (Met one (small m) × Met one (small k))
+
+-- two sides were compared
+pub record Compares (book cert : List ℕ) (a b : Subject) (w after : List ℕ) (r : Compared) : Type 0 where
+  pub told : (m : Mark Exp) (e : ℕ) → Means book cert w a m e → (k : Mark Exp) (f : ℕ) → Means book cert w b k f → Settles m k e r
+  pub below : Below FIRST w after
+
+-- the right that lies at a bit, as a subject; a table of no filling, or a use's, fills it
+pub record PlainRight (cert : List ℕ) (at i j : ℕ) (r : Subject) : Type 0 where
+  pub told : (book w ars : List ℕ) (B : Book Exp) (es : List (Claim Exp)) → Known book cert w ars B es → (m : Mark Exp) → RightAt cert ars at m
+      → (end : ℕ) × Means book cert w r (reindex-mark one (i, j) m) end
+
+pub record UsedRight (cert : List ℕ) (at i j : ℕ) (r : Subject) : Type 0 where
+  pub told : (book w ars : List ℕ) (B : Book Exp) (es : List (Claim Exp)) → Known book cert w ars B es → (u : Use Exp Pair)
+      → u .index ≡ (i, j) → Fills book cert w USED (by (u .fills)) → (m : Mark Exp) → RightAt cert ars at m
+      → (end : ℕ) × Means book cert w r (instance-mark one u m) end

@@ -1,0 +1,38 @@
+-- `instances::nodes::symbol` meets its contract: one field, with the arity that the book has for it.
+use Rattle.instances.proofs.Headers.{symbol-got, symbol-past}
+use borrow.Author.Needs.{needs}
+use Rattle.instances.proofs.nodes.symbol.Statement.{statement}
+use Rattle.instances.proofs.nodes.symbol.Tie as tie
+
+take-requires : tie.Need-take-requires
+take-requires c κs = search needs
+
+enum-known-f : tie.Need-enum-known-f
+enum-known-f c = search needs
+
+slice-aggregate-arity : tie.Need-slice-aggregate-arity
+slice-aggregate-arity c = search needs
+
+arity-requires : tie.Need-arity-requires
+arity-requires c κs = search needs
+
+enum-told : tie.Need-enum-told
+enum-told c = search needs
+
+returns : tie.Need-returns
+returns c = symbol-got _ _ _ _ _ _ _ _ (c .before .before .before .before .before .take .ensures) (c .before .before .before .f .given .1) (c .arity .ensures)
+
+returns-2 : tie.Need-returns-2
+returns-2 c = symbol-past _ _ _ _ (c .before .before .take .ensures) (c .enum-told .given .1)
+
+pub symbol-spec : {M : Type 1} → statement M
+symbol-spec =
+    tie.close
+    (tie.spec
+    take-requires
+    enum-known-f
+    slice-aggregate-arity
+    arity-requires
+    enum-told
+    returns
+    returns-2)

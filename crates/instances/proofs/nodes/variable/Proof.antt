@@ -1,0 +1,23 @@
+-- `instances::nodes::variable` meets its contract: one field, and what it leads to.
+use Rattle.instances.proofs.Headers.{variable-got, variable-past}
+use borrow.Author.Needs.{needs}
+use Rattle.instances.proofs.nodes.variable.Statement.{statement}
+use Rattle.instances.proofs.nodes.variable.Tie as tie
+
+take-requires : tie.Need-take-requires
+take-requires c κs = search needs
+
+enum-known-x : tie.Need-enum-known-x
+enum-known-x c = search needs
+
+enum-told : tie.Need-enum-told
+enum-told c = search needs
+
+returns : tie.Need-returns
+returns c = variable-got _ _ _ _ _ (c .before .before .before .take .ensures) (c .before .x .given .1)
+
+returns-2 : tie.Need-returns-2
+returns-2 c = variable-past _ _ _ (c .before .before .take .ensures) (c .enum-told .given .1)
+
+pub variable-spec : {M : Type 1} → statement M
+variable-spec = tie.close (tie.spec take-requires enum-known-x enum-told returns returns-2)

@@ -1,0 +1,71 @@
+// The header of the node at a bit: its tag, and the fields that are its own.
+use crate::Header;
+use bits::Cursor;
+use bits::Field;
+ghost use mathlib.Core.Path.{_≡_};
+ghost use Rattle.instances.specs.Headers.{variableAt, symbolAt, powerAt, headerAt};
+
+// A variable, behind its tag.
+fn variable(s: &[u8], c: Cursor) -> Header
+    ensures { λ r. ⌜ r ≡ variableAt (now (s .entry)) (c .at) ⌝ }
+{
+    match c.take(6, s) {
+        Field::Got(x, d) => Header::Variable {
+            variable: x,
+            past: d,
+        },
+        Field::Past => Header::Missing,
+    }
+}
+
+// A symbol, behind its tag.
+fn symbol(book: &[u8], s: &[u8], c: Cursor) -> Header
+    ensures { λ r. ⌜ r ≡ symbolAt (now (book .entry)) (now (s .entry)) (c .at) ⌝ }
+{
+    let none = [0u16; 0];
+    match c.take(8, s) {
+        Field::Got(f, d) => Header::Symbol {
+            symbol: f,
+            arity: terms::arity(book, &none, false, f),
+            past: d,
+        },
+        Field::Past => Header::Missing,
+    }
+}
+
+// A power, behind its tag.
+fn power(s: &[u8], c: Cursor) -> Header
+    ensures { λ r. ⌜ r ≡ powerAt (now (s .entry)) (c .at) ⌝ }
+{
+    let Field::Got(f, d) = c.take(8, s) else {
+        return Header::Missing;
+    };
+    let Field::Got(a, e) = d.take(12, s) else {
+        return Header::Missing;
+    };
+    let Field::Got(b, g) = e.take(12, s) else {
+        return Header::Missing;
+    };
+    Header::Power {
+        symbol: f,
+        a,
+        b,
+        past: g,
+    }
+}
+
+// The header of the node at a bit.
+pub fn header_at(book: &[u8], s: &[u8], at: usize) -> Header
+    ensures { λ r. ⌜ r ≡ headerAt (now (book .entry)) (now (s .entry)) at ⌝ }
+{
+    let c = Cursor { at };
+    let Field::Got(tag, d) = c.take(2, s) else {
+        return Header::Missing;
+    };
+    match tag {
+        0 => variable(s, d),
+        1 => symbol(book, s, d),
+        2 => power(s, d),
+        _ => Header::Missing,
+    }
+}

@@ -1,0 +1,45 @@
+-- The places of the work table. The three lists of begins, the three filling tables and the two sides lie in this order, so that what lives
+-- longest lies lowest.
+use Prim.Native.Nat.{ℕ}
+
+-- 01: "the work table has fewer than 8,192 64-bit numbers"
+abbrev pub WORDS : ℕ
+WORDS = 8192
+
+-- where each rule begins; where each line's left begins, and where its right does
+abbrev pub RULES : ℕ
+RULES = 0
+
+abbrev pub LEFTS : ℕ
+LEFTS = 256
+
+abbrev pub RIGHTS : ℕ
+RIGHTS = 512
+
+-- so many rules, and so many lines, have a word there
+abbrev pub ROWS : ℕ
+ROWS = 256
+
+-- the 64 words of a filling that stays empty; of the line's own filling; of a use's
+abbrev pub EMPTY : ℕ
+EMPTY = 768
+
+abbrev pub OWN : ℕ
+OWN = 832
+
+abbrev pub USED : ℕ
+USED = 896
+
+-- the two sides of a comparison
+abbrev pub FIRST : ℕ
+FIRST = 1024
+
+abbrev pub SECOND : ℕ
+SECOND = 4096
+
+-- the words of a side, three for each of its nodes
+abbrev pub SIDE : ℕ
+SIDE = 3072
+
+abbrev pub NODES : ℕ
+NODES = 1024
