@@ -4,12 +4,14 @@
 //! layout allows.
 
 pub mod errors;
+pub mod inputs;
 pub mod kinds;
 pub mod lexer;
 pub mod packing;
 pub mod printing;
 pub mod reader;
 pub mod repeat;
+pub mod shell;
 pub mod statements;
 pub mod symbols;
 pub mod terms;
