@@ -138,3 +138,24 @@ fn an_answer_that_cannot_be_written() {
         stops(tool(&folder, words).stdout(full).output().unwrap(), message);
     }
 }
+
+/// JUDGE, if it is set, names the program `judge`, built before. Over the same files,
+/// framed, it prints the same line, and nothing else; it takes no notice of arguments.
+#[test]
+fn the_program_prints_the_same_line() {
+    let Ok(program) = std::env::var("JUDGE") else { return };
+    let folder = folder("program");
+    for (name, length) in [("certificate", 10_000), ("cut", 20)] {
+        let book = text::inputs::book_of(folder.join("book").to_str().unwrap()).unwrap();
+        let whole = std::fs::read(folder.join("certificate")).unwrap();
+        let certificate = &whole[..whole.len().min(length)];
+        std::fs::write(folder.join(name), certificate).unwrap();
+        let input = text::inputs::framed(&book, certificate).unwrap();
+        std::fs::write(folder.join("input"), input).unwrap();
+        let input = std::fs::File::open(folder.join("input")).unwrap();
+        let printed = Command::new(&program).arg("book").stdin(input).output().unwrap();
+        let told = run(&folder, &["book", name]);
+        let line = said(&told.stdout).split_inclusive('\n').next().unwrap();
+        assert_eq!(said(&printed.stdout), line);
+    }
+}

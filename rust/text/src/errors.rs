@@ -1,6 +1,7 @@
 //! What may go wrong with a text, and how it is said.
 
 use crate::lexer::Position;
+use crate::symbols::Symbols;
 use crate::words::refusal_words;
 use second::answer::BOOK;
 use second::{verdict_line, Refusal, Verdict};
@@ -32,8 +33,11 @@ impl TextError {
         Err(TextError::Form { position, message: expected_found(expected, found) })
     }
 
-    pub fn unfit_names() -> TextError {
-        TextError::Names("the names' arities are not those of the book".to_string())
+    /// The arities of the names are not those of the book.
+    pub fn unfit_names(names: &Symbols, arities: &[u8]) -> TextError {
+        let of_book = Symbols::by_number(arities).statement();
+        let expected = format!("names for the arities of `{of_book}`");
+        TextError::Names(expected_found(expected, format!("`{}`", names.statement())))
     }
 
     /// The message with the file's name before it. A refusal of the book while a

@@ -8,7 +8,7 @@ use std::process::ExitCode;
 use text::inputs::{book_of, certificate_of, framed, packed_book, packed_certificate, Book};
 use text::shell::{called, run_with, text_of, write_file, Failure, DONE};
 use text::vectors::{expected_output, pack_vectors, parse_vectors, Vector};
-use text::{names_in, print_book, print_certificate, Symbols};
+use text::{names_in, print_book, print_certificate, Symbols, TextError};
 
 type Done = Result<Vec<u8>, Failure>;
 
@@ -78,16 +78,23 @@ fn certificate_packed(book: &str, file: &str) -> Done {
 fn book_printed(names: Option<&str>, book: &str) -> Done {
     let book = book_of(book)?;
     let printed = print_book(&book.bytes, names_of(names, &book)?.as_ref());
-    let printed = printed.map_err(|error| error.in_files(&book.file, &book.file));
-    printed.map(String::into_bytes).map_err(Failure::refused)
+    Ok(printed.map_err(|error| refused(&error, names, &book, &book.file))?.into_bytes())
 }
 
 fn certificate_printed(names: Option<&str>, book: &str, file: &str) -> Done {
     let book = book_of(book)?;
     let certificate = certificate_of(&book, file)?;
     let printed = print_certificate(&book.bytes, &certificate, names_of(names, &book)?.as_ref());
-    let printed = printed.map_err(|error| error.in_files(&book.file, called(file)));
-    printed.map(String::into_bytes).map_err(Failure::refused)
+    Ok(printed.map_err(|error| refused(&error, names, &book, called(file)))?.into_bytes())
+}
+
+/// What is wrong with the names, the book or this file.
+fn refused(error: &TextError, names: Option<&str>, book: &Book, file: &str) -> Failure {
+    let file = match (error, names) {
+        (TextError::Names(_), Some(names)) => called(names),
+        _ => file,
+    };
+    Failure::refused(error.in_files(&book.file, file))
 }
 
 fn frame(book: &str, certificate: &str) -> Done {

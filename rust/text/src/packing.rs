@@ -28,8 +28,8 @@ pub fn pack_certificate_text(book: &[u8], text: &str) -> Read<Vec<u8>> {
 pub fn pack_certificate_named(book: &[u8], names: Option<&Symbols>, text: &str) -> Read<Vec<u8>> {
     let parsed = parse_book(book);
     let parsed = parsed.map_err(|refusal| TextError::Refused { refusal, place: None })?;
-    if names.is_some_and(|names| !names.fit(&parsed.arities)) {
-        return Err(TextError::unfit_names());
+    if let Some(names) = names.filter(|names| !names.fit(&parsed.arities)) {
+        return Err(TextError::unfit_names(names, &parsed.arities));
     }
     let mut reader = Reader::new(text)?;
     let table = reader.symbol_table()?;

@@ -28,7 +28,7 @@ fn chosen(book: &Book, names: Option<&Symbols>) -> Result<Symbols, TextError> {
     match names {
         None => Ok(Symbols::by_number(&book.arities)),
         Some(names) if names.fit(&book.arities) => Ok(names.clone()),
-        Some(_) => Err(TextError::unfit_names()),
+        Some(names) => Err(TextError::unfit_names(names, &book.arities)),
     }
 }
 

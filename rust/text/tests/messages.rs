@@ -266,5 +266,8 @@ fn of_symbols_that_are_not_the_books() {
     let message = "1:30: expected `while/2`, symbol 4 of the book, found `.`";
     assert_eq!(error(Some(&names), few), wrong(message));
     let others = names_in("symbols a/0.").unwrap();
-    assert!(error(Some(&others), SYMBOLS).unwrap_err().starts_with("the names' arities"));
+    let message =
+        "expected names for the arities of `symbols f0/2, u1/1, c2/0, f3/3, f4/2.`, found \
+                   `symbols a/0.`";
+    assert_eq!(error(Some(&others), SYMBOLS), wrong(message));
 }

@@ -167,6 +167,8 @@ fn frames() {
     }
     gives(run_on(&folder, &["frame", "book"], &PACKED_CERTIFICATE), &input);
     gives(run(&folder, &["input-of", "v", "vectors.txt"]), &input);
+    let verdict = second::judge_input(&input, &mut vec![0; 8_192]);
+    assert_eq!(second::verdict_line(&verdict), "accept 0 0 0");
     // Files that the judge refuses are framed too, as long as two bytes tell the length.
     std::fs::write(folder.join("longest"), vec![0; 65_535]).unwrap();
     let framed = [&[0xFF, 0xFF], &[0; 65_535][..], &PACKED_CERTIFICATE].concat();
@@ -190,6 +192,10 @@ fn messages_name_the_file() {
     let message = "wrong.txt:2:1: expected `line` or `closing`, found `foo`\n";
     stops(run(&folder, &["pack-certificate", "book", "wrong.txt"]), 1, message);
     stops(run(&folder, &["frame", "book", "wrong.txt"]), 1, message);
+    std::fs::write(folder.join("names.txt"), "symbols a/1.").unwrap();
+    let unfit = "expected names for the arities of `symbols c0/0.`, found `symbols a/1.`";
+    let message = format!("names.txt: {unfit}\n");
+    stops(run(&folder, &["print-book", "--names", "names.txt", "book"]), 1, &message);
     let left_over = "something is left over behind the last field";
     std::fs::write(folder.join("bad"), [&PACKED_BOOK[..], &[0]].concat()).unwrap();
     let message = format!("bad: in the book, at bit 44: {left_over} (refuse 7 0 44 0)\n");
