@@ -33,7 +33,7 @@ pub fn pack_certificate_named(book: &[u8], names: Option<&Symbols>, text: &str) 
     }
     let mut reader = Reader::new(text)?;
     let table = reader.symbol_table()?;
-    same_symbols(&reader, &table, &parsed.arities, names)?;
+    same_symbols(&reader, &table, &OfBook { arities: &parsed.arities, names })?;
     reader.symbols = table.symbols;
     let reader = lines_and_closing(reader)?;
     let mut out = vec![0; CERTIFICATE_BYTES];
@@ -41,40 +41,44 @@ pub fn pack_certificate_named(book: &[u8], names: Option<&Symbols>, text: &str) 
     packed(answer, out, CERTIFICATE, &reader)
 }
 
-/// Holds the certificate's table to the book's, symbol by symbol.
-fn same_symbols(
-    reader: &Reader,
-    table: &Table,
-    arities: &[u8],
-    names: Option<&Symbols>,
-) -> Read<()> {
-    for (number, (name, arity)) in table.symbols.entries().enumerate() {
-        let position = reader.position_of(table.names[number]);
-        let found = format!("`{name}/{arity}`");
-        let Some(of_book) = arities.get(number).copied() else {
-            let expected = format!("`.` after the {} symbols of the book", arities.len());
-            return TextError::expected(position, expected, found);
-        };
-        let name_of_book = names.map(|names| names.name(number as u8));
-        if arity != u16::from(of_book) || name_of_book.is_some_and(|known| known != name) {
-            let expected = match name_of_book {
-                Some(known) => format!("`{known}/{of_book}`, symbol {number} of the book"),
-                None => format!("arity {of_book}, that of symbol {number} of the book"),
-            };
-            return TextError::expected(position, expected, found);
-        }
+/// What is known of the symbols of a book: the arities, and perhaps the names.
+struct OfBook<'a> {
+    arities: &'a [u8],
+    names: Option<&'a Symbols>,
+}
+
+impl OfBook<'_> {
+    fn is(&self, number: usize, name: &str, arity: u16) -> bool {
+        let named = self.names.is_none_or(|names| names.name(number as u8) == name);
+        named && arity == u16::from(self.arities[number])
     }
-    match arities.len() - table.symbols.len() {
-        0 => Ok(()),
-        _ => {
-            let next = table.symbols.len();
-            let missing = match names {
-                Some(names) => format!("`{}/{}`", names.name(next as u8), arities[next]),
-                None => format!("a symbol of arity {}", arities[next]),
-            };
-            let expected = format!("{missing}, symbol {next} of the book");
-            TextError::expected(reader.position_of(table.stop), expected, "`.`")
-        }
+
+    /// One of its symbols, as a message calls it.
+    fn called(&self, number: usize) -> String {
+        let arity = self.arities[number];
+        let symbol = match self.names {
+            Some(names) => format!("`{}/{arity}`", names.name(number as u8)),
+            None => format!("a symbol of arity {arity}"),
+        };
+        format!("{symbol}, symbol {number} of the book")
+    }
+}
+
+/// Holds the certificate's table to the book's, symbol by symbol.
+fn same_symbols(reader: &Reader, table: &Table, book: &OfBook) -> Read<()> {
+    let count = book.arities.len();
+    for (number, (name, arity)) in table.symbols.entries().enumerate() {
+        let expected = match number < count {
+            true if book.is(number, name, arity) => continue,
+            true => book.called(number),
+            false => format!("`.` after the {count} symbols of the book"),
+        };
+        let position = reader.position_of(table.names[number]);
+        return TextError::expected(position, expected, format!("`{name}/{arity}`"));
+    }
+    match table.symbols.len() {
+        all if all == count => Ok(()),
+        next => TextError::expected(reader.position_of(table.stop), book.called(next), "`.`"),
     }
 }
 

@@ -244,7 +244,7 @@ fn of_symbols_that_are_not_the_books() {
     assert!(error(Some(&names), SYMBOLS).is_ok());
     // Another order, another arity.
     let order = "symbols s/1, gt/2, 0/0, add/3, while/2.";
-    let message = "1:9: expected arity 2, that of symbol 0 of the book, found `s/1`";
+    let message = "1:9: expected a symbol of arity 2, symbol 0 of the book, found `s/1`";
     assert_eq!(error(None, order), wrong(message));
     let message = "1:9: expected `gt/2`, symbol 0 of the book, found `s/1`";
     assert_eq!(error(Some(&names), order), wrong(message));

@@ -84,3 +84,43 @@ fn names_must_fit_the_book() {
     let names = names_in("symbols a/0, b/0.").unwrap();
     assert!(matches!(print_book(&[0, 0], Some(&names)), Err(TextError::Names(_))));
 }
+
+/// The text with one piece of it cut out, doubled or exchanged.
+fn damaged(text: &str, random: &mut Random) -> String {
+    let letters: Vec<char> = text.chars().collect();
+    let at = random.below(letters.len());
+    let end = letters.len().min(at + 1 + random.below(9));
+    let (before, piece, after) = (&letters[..at], &letters[at..end], &letters[end..]);
+    let other = random.below(letters.len());
+    let new = match random.below(4) {
+        0 => Vec::new(),
+        1 => [piece, piece].concat(),
+        2 => vec!['#', ';', '9', 'X', '(', ' '][random.below(6)..].to_vec(),
+        _ => letters[other..letters.len().min(other + 9)].to_vec(),
+    };
+    [before, &new, after].concat().into_iter().collect()
+}
+
+/// Whatever is wrong, the message has its form and a place in the text.
+#[test]
+fn damaged_texts_get_a_message() {
+    let mut random = Random::new(31);
+    let book = pack_book_text(BOOK).unwrap();
+    let mut refused = 0;
+    for _ in 0..3_000 {
+        let text = damaged(BOOK, &mut random);
+        let other = damaged(CERTIFICATE, &mut random);
+        let errors = [pack_book_text(&text).err(), pack_certificate_text(&book, &other).err()];
+        for (text, error) in [text, other].into_iter().zip(errors) {
+            let Some(message) = error.map(|error| error.to_string()) else { continue };
+            let parts: Vec<&str> = message.splitn(3, ':').collect();
+            let line: usize = parts[0].parse().unwrap();
+            let column: usize = parts[1].parse().unwrap();
+            let letters = text.split('\n').nth(line - 1).unwrap().chars().count();
+            assert!(column >= 1 && column <= letters + 1, "{message}\n{text}");
+            assert!(parts[2].starts_with(" expected ") && parts[2].contains(", found "));
+            refused += 1;
+        }
+    }
+    assert!(refused > 3_000, "{refused}");
+}
