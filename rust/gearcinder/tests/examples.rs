@@ -33,8 +33,27 @@ fn run_on_example_1(program: &Path, folder: &Path) {
     let bad = run(&["BOOK", "BAD"]);
     assert!(said(&bad).starts_with("refuse 3 1 "), "{}", said(&bad));
     assert_eq!(bad.status.code(), Some(1));
-    assert_eq!(run(&["BOOK", "NOWHERE"]).status.code(), Some(2));
-    assert_eq!(run(&[]).status.code(), Some(2));
+    stops(run(&["BOOK", "NOWHERE"]), &["NOWHERE: ", "No such file"]);
+    stops(run(&["NOWHERE", "GOOD"]), &["NOWHERE: ", "No such file"]);
+    // A folder can be opened, but not read.
+    stops(run(&["BOOK", "."]), &[".: ", "directory"]);
+    for words in [&[][..], &["BOOK"], &["BOOK", "GOOD", "GOOD"]] {
+        stops(run(words), &["usage: judge BOOK CERTIFICATE"]);
+    }
+    let full = std::fs::OpenOptions::new().write(true).open("/dev/full").unwrap();
+    let words = [folder.join("BOOK"), folder.join("GOOD")];
+    let unwritten = Command::new(program).args(words).stdout(full).output().unwrap();
+    stops(unwritten, &["standard output: ", "No space left"]);
+    std::fs::write(folder.join("LONG"), vec![0; 16_385]).unwrap();
+    let long = run(&["LONG", "GOOD"]);
+    assert_eq!((said(&long).as_str(), long.status.code()), ("refuse 2 0 0 0\n", Some(1)));
+}
+
+/// It printed no answer, and said why on standard error.
+fn stops(output: Output, words: &[&str]) {
+    let message = String::from_utf8(output.stderr).unwrap();
+    assert_eq!((output.stdout.as_slice(), output.status.code()), (&b""[..], Some(2)));
+    assert!(words.iter().all(|word| message.contains(word)), "{message}");
 }
 
 #[test]

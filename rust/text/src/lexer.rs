@@ -26,6 +26,17 @@ pub enum Token {
     End,
 }
 
+/// As messages name it.
+impl fmt::Display for Token {
+    fn fmt(&self, f: &mut fmt::Formatter<'_>) -> fmt::Result {
+        match self {
+            Token::Word(word) => write!(f, "`{word}`"),
+            Token::Sign(sign) => write!(f, "`{sign}`"),
+            Token::End => write!(f, "the end"),
+        }
+    }
+}
+
 const SIGNS: [&str; 14] = [":-", "->", "(", ")", "{", "}", "[", "]", ",", ".", "=", "^", "/", ":"];
 
 /// The tokens with their positions, repetitions written out. `%` begins a comment up
@@ -36,14 +47,18 @@ pub fn tokens(text: &str) -> Result<Vec<(Token, Position)>, TextError> {
 
 fn plain_tokens(text: &str) -> Result<Vec<(Token, Position)>, TextError> {
     let mut found = Vec::new();
-    let mut line = 1;
-    for content in text.lines() {
+    for (number, content) in text.lines().enumerate() {
         let content = content.split('%').next().unwrap_or("");
-        tokens_of_line(content, line, &mut found)?;
-        line += 1;
+        tokens_of_line(content, number + 1, &mut found)?;
     }
-    found.push((Token::End, Position { line, column: 1 }));
+    found.push((Token::End, end_of(text)));
     Ok(found)
+}
+
+/// The place behind the text's last letter.
+fn end_of(text: &str) -> Position {
+    let last = text.rsplit('\n').next().unwrap_or("");
+    Position { line: text.matches('\n').count() + 1, column: last.chars().count() + 1 }
 }
 
 fn tokens_of_line(
@@ -52,22 +67,24 @@ fn tokens_of_line(
     found: &mut Vec<(Token, Position)>,
 ) -> Result<(), TextError> {
     let mut rest = content;
+    let mut column = 1;
     while let Some(first) = rest.chars().next() {
-        let column = content[..content.len() - rest.len()].chars().count() + 1;
         let position = Position { line, column };
-        if first.is_whitespace() {
-            rest = &rest[first.len_utf8()..];
+        let length = if first.is_whitespace() {
+            first.len_utf8()
         } else if is_word(first) {
             let length = word_length(rest);
             found.push((Token::Word(rest[..length].to_string()), position));
-            rest = &rest[length..];
+            length
         } else if let Some(sign) = SIGNS.iter().find(|sign| rest.starts_with(**sign)) {
             found.push((Token::Sign(sign), position));
-            rest = &rest[sign.len()..];
+            sign.len()
         } else {
-            let message = format!("the sign {first:?} has no meaning here");
-            return Err(TextError::Form { position, message });
-        }
+            let other = format!("`{}`", first.escape_debug());
+            return TextError::expected(position, "a word or a sign of the form", other);
+        };
+        column += rest[..length].chars().count();
+        rest = &rest[length..];
     }
     Ok(())
 }

@@ -1,81 +1,115 @@
 //! The command-line tool over files or standard input.
 
+mod help;
+
+use help::{help, misused};
 use std::collections::BTreeSet;
-use std::io::{Read, Write};
+use std::process::ExitCode;
+use text::inputs::{book_of, certificate_of, framed, packed_book, packed_certificate, Book};
+use text::shell::{called, run_with, text_of, write_file, Failure, DONE};
 use text::vectors::{expected_output, pack_vectors, parse_vectors, Vector};
-use text::{names_in, pack_book_text, pack_certificate_text, print_book, print_certificate};
-use text::{Symbols, TextError};
+use text::{names_in, print_book, print_certificate, Symbols, TextError};
 
-const HELP: &str = "gearcinder-text pack-book [TEXT]
-gearcinder-text pack-certificate BOOK [TEXT]
-gearcinder-text print-book [--names TEXT] [BOOK]
-gearcinder-text print-certificate [--names TEXT] BOOK [CERTIFICATE]
-gearcinder-text pack-vectors VECTORS OUTPUT TEXT...
-gearcinder-text input-of NAME TEXT...
-BOOK and CERTIFICATE are packed files; a hyphen or nothing is standard input.
-The result goes to standard output, but for pack-vectors, which writes two files.";
+type Done = Result<Vec<u8>, Failure>;
 
-fn main() {
-    let arguments: Vec<String> = std::env::args().skip(1).collect();
-    let words: Vec<&str> = arguments.iter().map(String::as_str).collect();
-    match run(&words) {
-        Ok(bytes) => {
-            if let Err(error) = std::io::stdout().lock().write_all(&bytes) {
-                fail(&error.to_string(), 1);
-            }
-        }
-        Err(Failure::Text(error)) => fail(&error.to_string(), 1),
-        Err(Failure::File(message)) => fail(&message, 1),
-        Err(Failure::Usage) => fail(HELP, 2),
-    }
+fn main() -> ExitCode {
+    run_with(|words| Ok((told(words)?, DONE)))
 }
 
-fn fail(message: &str, code: i32) -> ! {
-    eprintln!("{message}");
-    std::process::exit(code)
-}
-
-enum Failure {
-    Usage,
-    File(String),
-    Text(TextError),
-}
-
-impl From<TextError> for Failure {
-    fn from(error: TextError) -> Failure {
-        Failure::Text(error)
-    }
-}
-
-fn run(words: &[&str]) -> Result<Vec<u8>, Failure> {
+/// What the tool says of itself, or what a command makes.
+fn told(words: &[&str]) -> Done {
+    let is_help = |word: &&str| matches!(*word, "--help" | "-h");
     match words {
-        ["pack-book", rest @ ..] if rest.len() <= 1 => Ok(pack_book_text(&text_of(rest.first())?)?),
-        ["pack-certificate", book, rest @ ..] if rest.len() <= 1 => {
-            Ok(pack_certificate_text(&bytes_of(Some(book))?, &text_of(rest.first())?)?)
-        }
-        ["print-book", "--names", names, rest @ ..] if rest.len() <= 1 => {
-            printed_book(Some(names), rest.first())
-        }
-        ["print-book", rest @ ..] if rest.len() <= 1 => printed_book(None, rest.first()),
-        ["print-certificate", "--names", names, book, rest @ ..] if rest.len() <= 1 => {
-            printed_certificate(Some(names), book, rest.first())
-        }
-        ["print-certificate", book, rest @ ..] if rest.len() <= 1 => {
-            printed_certificate(None, book, rest.first())
-        }
-        ["pack-vectors", packed, output, files @ ..] => {
+        ["help"] => Ok(help(None)?.into_bytes()),
+        ["help", command] => Ok(help(Some(command))?.into_bytes()),
+        [word] if is_help(word) => Ok(help(None)?.into_bytes()),
+        [command, rest @ ..] if rest.iter().any(is_help) => Ok(help(Some(command))?.into_bytes()),
+        ["--version"] => Ok(format!("gearcinder-text {}\n", env!("CARGO_PKG_VERSION")).into()),
+        _ => run(words),
+    }
+}
+
+fn run(words: &[&str]) -> Done {
+    let (words, names) = without_names(words)?;
+    match words[..] {
+        ["pack-book"] => packed_book("-", &text_of("-")?),
+        ["pack-book", file] => packed_book(file, &text_of(file)?),
+        ["pack-certificate", book] => certificate_packed(book, "-"),
+        ["pack-certificate", book, file] => certificate_packed(book, file),
+        ["print-book"] => book_printed(names, "-"),
+        ["print-book", book] => book_printed(names, book),
+        ["print-certificate", book] => certificate_printed(names, book, "-"),
+        ["print-certificate", book, file] => certificate_printed(names, book, file),
+        ["frame", book] => frame(book, "-"),
+        ["frame", book, certificate] => frame(book, certificate),
+        ["pack-vectors", packed, output, ref files @ ..] if !files.is_empty() => {
             let vectors = vectors_of(files)?;
-            written(packed, &pack_vectors(&vectors))?;
-            written(output, expected_output(&vectors).as_bytes())?;
+            write_file(packed, &pack_vectors(&vectors))?;
+            write_file(output, expected_output(&vectors).as_bytes())?;
             Ok(Vec::new())
         }
-        ["input-of", name, files @ ..] => {
+        ["input-of", name, ref files @ ..] if !files.is_empty() => {
             let vectors = vectors_of(files)?;
-            let found = vectors.iter().find(|vector| vector.name == *name);
+            let found = vectors.iter().find(|vector| vector.name == name);
             let input = found.and_then(Vector::framed);
-            input.ok_or(Failure::File(format!("no judgement is called {name}")))
+            input.ok_or(Failure::refused(format!("no judgement is called {name}")))
         }
-        _ => Err(Failure::Usage),
+        _ => Err(misused(&words)),
+    }
+}
+
+/// Takes `--names TEXT`, which only the two printing commands have, out of the words.
+fn without_names<'a>(words: &[&'a str]) -> Result<(Vec<&'a str>, Option<&'a str>), Failure> {
+    match words {
+        [command @ ("print-book" | "print-certificate"), "--names", names, rest @ ..] => {
+            Ok(([&[*command], rest].concat(), Some(names)))
+        }
+        _ => match words.iter().find(|word| word.starts_with('-') && **word != "-") {
+            None => Ok((words.to_vec(), None)),
+            Some(_) => Err(misused(words)),
+        },
+    }
+}
+
+fn certificate_packed(book: &str, file: &str) -> Done {
+    packed_certificate(&book_of(book)?, file, &text_of(file)?)
+}
+
+fn book_printed(names: Option<&str>, book: &str) -> Done {
+    let book = book_of(book)?;
+    let printed = print_book(&book.bytes, names_of(names, &book)?.as_ref());
+    Ok(printed.map_err(|error| refused(&error, names, &book, &book.file))?.into_bytes())
+}
+
+fn certificate_printed(names: Option<&str>, book: &str, file: &str) -> Done {
+    let book = book_of(book)?;
+    let certificate = certificate_of(&book, file)?;
+    let printed = print_certificate(&book.bytes, &certificate, names_of(names, &book)?.as_ref());
+    Ok(printed.map_err(|error| refused(&error, names, &book, called(file)))?.into_bytes())
+}
+
+/// What is wrong with the names, the book or this file.
+fn refused(error: &TextError, names: Option<&str>, book: &Book, file: &str) -> Failure {
+    let file = match (error, names) {
+        (TextError::Names(_), Some(names)) => called(names),
+        _ => file,
+    };
+    Failure::refused(error.in_files(&book.file, file))
+}
+
+fn frame(book: &str, certificate: &str) -> Done {
+    let book = book_of(book)?;
+    framed(&book, &certificate_of(&book, certificate)?)
+}
+
+/// The names in that text, or those of the book if it is text itself.
+fn names_of(file: Option<&str>, book: &Book) -> Result<Option<Symbols>, Failure> {
+    match file {
+        None => Ok(book.names.clone()),
+        Some(file) => {
+            let names = names_in(&text_of(file)?);
+            names.map(Some).map_err(|error| Failure::refused(error.in_files(file, called(file))))
+        }
     }
 }
 
@@ -83,55 +117,13 @@ fn run(words: &[&str]) -> Result<Vec<u8>, Failure> {
 fn vectors_of(files: &[&str]) -> Result<Vec<Vector>, Failure> {
     let mut vectors: Vec<Vector> = Vec::new();
     for file in files {
-        let found = parse_vectors(&text_of(Some(file))?);
-        vectors.extend(found.map_err(|error| Failure::File(format!("{file}:{error}")))?);
+        let found = parse_vectors(&text_of(file)?);
+        let file = called(file);
+        vectors.extend(found.map_err(|error| Failure::refused(error.in_files(file, file)))?);
     }
     let mut names = BTreeSet::new();
     match vectors.iter().find(|vector| !names.insert(vector.name.as_str())) {
         None => Ok(vectors),
-        Some(again) => Err(Failure::File(format!("two vectors are called {}", again.name))),
-    }
-}
-
-fn written(path: &str, bytes: &[u8]) -> Result<(), Failure> {
-    std::fs::write(path, bytes).map_err(|error| Failure::File(format!("{path}: {error}")))
-}
-
-fn printed_book(names: Option<&&str>, book: Option<&&str>) -> Result<Vec<u8>, Failure> {
-    let names = names_of(names)?;
-    Ok(print_book(&bytes_of(book)?, names.as_ref())?.into_bytes())
-}
-
-fn printed_certificate(
-    names: Option<&&str>,
-    book: &&str,
-    certificate: Option<&&str>,
-) -> Result<Vec<u8>, Failure> {
-    let names = names_of(names)?;
-    let book = bytes_of(Some(book))?;
-    Ok(print_certificate(&book, &bytes_of(certificate)?, names.as_ref())?.into_bytes())
-}
-
-fn names_of(file: Option<&&str>) -> Result<Option<Symbols>, Failure> {
-    match file {
-        None => Ok(None),
-        Some(_) => Ok(Some(names_in(&text_of(file)?)?)),
-    }
-}
-
-fn text_of(file: Option<&&str>) -> Result<String, Failure> {
-    String::from_utf8(bytes_of(file)?).map_err(|_| Failure::File("the text is not UTF-8".into()))
-}
-
-/// The whole file; a hyphen or nothing is standard input.
-fn bytes_of(file: Option<&&str>) -> Result<Vec<u8>, Failure> {
-    let mut bytes = Vec::new();
-    let done = match file {
-        None | Some(&"-") => std::io::stdin().lock().read_to_end(&mut bytes).map(|_| ()),
-        Some(path) => std::fs::read(path).map(|content| bytes = content),
-    };
-    match done {
-        Ok(()) => Ok(bytes),
-        Err(error) => Err(Failure::File(format!("{}: {error}", file.unwrap_or(&"-")))),
+        Some(again) => Err(Failure::refused(format!("two vectors are called {}", again.name))),
     }
 }

@@ -1,7 +1,7 @@
 //! From packed bytes back to text.
 
-use crate::fields::variable_name;
 use crate::symbols::Symbols;
+use crate::terms::variable_name;
 use crate::TextError;
 use second::files::{parse_book, parse_both};
 use second::{Book, Certificate, Filling, Line, Proof, Refusal, Rule, Term, Use};
@@ -21,16 +21,14 @@ pub fn print_certificate(book: &[u8], certificate: &[u8], names: Option<&Symbols
 }
 
 fn refused(refusal: Refusal) -> TextError {
-    TextError::Refused { refusal, position: None }
+    TextError::Refused { refusal, place: None }
 }
 
 fn chosen(book: &Book, names: Option<&Symbols>) -> Result<Symbols, TextError> {
     match names {
         None => Ok(Symbols::by_number(&book.arities)),
         Some(names) if names.fit(&book.arities) => Ok(names.clone()),
-        Some(_) => {
-            Err(TextError::Names("the names' arities are not those of the book".to_string()))
-        }
+        Some(names) => Err(TextError::unfit_names(names, &book.arities)),
     }
 }
 

@@ -6,61 +6,113 @@ use crate::lexer::{Position, Token};
 use crate::TextError;
 
 type Placed = (Token, Position);
+type Done<T> = Result<T, TextError>;
 
-/// More words than this are not written out.
-const MOST_TOKENS: usize = 1_000_000;
+/// More words and rounds than this are not written out.
+const MOST: usize = 1_000_000;
 
 /// Writes all repetitions out; every word keeps its place in the text.
-pub fn repeated(tokens: &[Placed]) -> Result<Vec<Placed>, TextError> {
-    let mut found = Vec::new();
-    write_out(tokens, None, &mut found)?;
-    Ok(found)
+pub fn repeated(tokens: &[Placed]) -> Done<Vec<Placed>> {
+    let mut writer = Writer { found: Vec::new(), count: 0 };
+    writer.write_out(tokens, None)?;
+    Ok(writer.found)
 }
 
-fn write_out(
-    tokens: &[Placed],
-    number: Option<i64>,
-    found: &mut Vec<Placed>,
-) -> Result<(), TextError> {
-    let mut rest = tokens;
-    while let [(token, position), after @ ..] = rest {
-        rest = after;
-        if found.len() >= MOST_TOKENS {
-            return wrong(*position, "too much is repeated");
-        }
-        match repetition(token, after, number) {
-            None => found.push((with_number(token, *position, number)?, *position)),
-            Some((first, last, body)) => {
-                let Some(end) = closing_bracket(body) else {
-                    return wrong(*position, "`]` expected for this repeat");
-                };
-                for round in first..=last {
-                    write_out(&body[..end], Some(round), found)?;
+struct Writer {
+    found: Vec<Placed>,
+    /// The words and the rounds so far.
+    count: usize,
+}
+
+/// A repetition that begins: its bounds, what is in the brackets, what is behind them.
+struct Repetition<'a> {
+    first: i64,
+    last: i64,
+    body: &'a [Placed],
+    rest: &'a [Placed],
+}
+
+impl Writer {
+    fn write_out(&mut self, tokens: &[Placed], number: Option<i64>) -> Done<()> {
+        let mut rest = tokens;
+        while let [here, after @ ..] = rest {
+            self.count_one(here.1)?;
+            if begins(here, after) {
+                let repetition = repetition(here.1, after, number)?;
+                for round in repetition.first..=repetition.last {
+                    self.count_one(here.1)?;
+                    self.write_out(repetition.body, Some(round))?;
                 }
-                rest = &body[end + 1..];
+                rest = repetition.rest;
+            } else {
+                self.found.push((with_number(here, number)?, here.1));
+                rest = after;
+            }
+        }
+        Ok(())
+    }
+
+    fn count_one(&mut self, position: Position) -> Done<()> {
+        self.count += 1;
+        match self.count <= MOST {
+            true => Ok(()),
+            false => {
+                let most = format!("at most {MOST} words with all repetitions written out");
+                TextError::expected(position, most, "more")
             }
         }
     }
-    Ok(())
 }
 
-/// The bounds and what follows the bracket, if a repetition begins with this token.
-fn repetition<'a>(
-    token: &Token,
-    after: &'a [Placed],
-    number: Option<i64>,
-) -> Option<(i64, i64, &'a [Placed])> {
-    let bound = |(token, position): &Placed| match with_number(token, *position, number) {
-        Ok(Token::Word(word)) => word.parse::<i64>().ok(),
+/// A symbol may be called `repeat` too: then a sign follows it, or the word `by` of a
+/// line.
+fn begins((token, _): &Placed, after: &[Placed]) -> bool {
+    let follows = match after.first() {
+        Some((Token::Word(word), _)) => word != "by",
+        Some((Token::Sign(sign), _)) => *sign == "[",
+        _ => false,
+    };
+    *token == Token::Word("repeat".into()) && follows
+}
+
+/// What follows the word `repeat`.
+fn repetition(at: Position, after: &[Placed], number: Option<i64>) -> Done<Repetition<'_>> {
+    let (first, after) = bound(at, after, number)?;
+    let after = fixed(at, after, &Token::Word("to".into()))?;
+    let (last, after) = bound(at, after, number)?;
+    let after = fixed(at, after, &Token::Sign("["))?;
+    match closing_bracket(after) {
+        Some(end) => Ok(Repetition { first, last, body: &after[..end], rest: &after[end + 1..] }),
+        None => TextError::expected(at, "a `repeat` with its `]`", "none up to the end"),
+    }
+}
+
+fn bound(at: Position, tokens: &[Placed], number: Option<i64>) -> Done<(i64, &[Placed])> {
+    let (here, rest) = next(at, tokens);
+    let found = with_number(&here, number)?;
+    let value = match &found {
+        Token::Word(word) => word.parse::<u16>().ok(),
         _ => None,
     };
-    match after {
-        [first, (to, _), last, (Token::Sign("["), _), body @ ..]
-            if *token == Token::Word("repeat".into()) && *to == Token::Word("to".into()) =>
-        {
-            Some((bound(first)?, bound(last)?, body))
-        }
-        _ => None,
+    match value {
+        Some(value) => Ok((i64::from(value), rest)),
+        None => TextError::expected(here.1, "a number from 0 to 65535 for `repeat`", found),
+    }
+}
+
+fn fixed<'a>(at: Position, tokens: &'a [Placed], wanted: &Token) -> Done<&'a [Placed]> {
+    let (here, rest) = next(at, tokens);
+    match here.0 == *wanted {
+        true => Ok(rest),
+        false => TextError::expected(here.1, format!("{wanted} for `repeat`"), here.0),
+    }
+}
+
+/// The next token; inside brackets there may be none left.
+fn next(at: Position, tokens: &[Placed]) -> (Placed, &[Placed]) {
+    match tokens {
+        [here, rest @ ..] => (here.clone(), rest),
+        [] => ((Token::Sign("]"), at), tokens),
     }
 }
 
@@ -78,17 +130,18 @@ fn closing_bracket(tokens: &[Placed]) -> Option<usize> {
 }
 
 /// Puts the number for `#` in a word.
-fn with_number(token: &Token, position: Position, number: Option<i64>) -> Result<Token, TextError> {
+fn with_number((token, position): &Placed, number: Option<i64>) -> Done<Token> {
     let Token::Word(word) = token else { return Ok(token.clone()) };
     let Some((before, after)) = word.split_once('#') else { return Ok(token.clone()) };
-    let Some(number) = number else { return wrong(position, "`#` stands only in a repeat") };
+    let Some(number) = number else {
+        return TextError::expected(*position, "`#` only in a `repeat`", token);
+    };
     let offset = if after.is_empty() { Some(0) } else { after.parse::<i64>().ok() };
-    match offset.map(|offset| number + offset) {
+    match offset.and_then(|offset| number.checked_add(offset)) {
         Some(number) if number >= 0 => Ok(Token::Word(format!("{before}{number}"))),
-        _ => wrong(position, "`#`, `#+1` or `#-1` expected, and no number below 0"),
+        _ => {
+            let wanted = "`#`, `#+1` or `#-1`, and no number below 0";
+            TextError::expected(*position, wanted, format!("{token} where `#` is {number}"))
+        }
     }
-}
-
-fn wrong<T>(position: Position, message: &str) -> Result<T, TextError> {
-    Err(TextError::Form { position, message: message.to_string() })
 }

@@ -1,7 +1,7 @@
 //! The symbol table: `symbols gt/2, s/1, 0/0.` gives each symbol its number, in
 //! order from 0, and its arity.
 
-use crate::fields::Reader;
+use crate::reader::Reader;
 use crate::TextError;
 
 #[derive(Clone, Debug, Default, PartialEq, Eq)]
@@ -10,10 +10,8 @@ pub struct Symbols {
 }
 
 impl Symbols {
-    pub fn add(&mut self, name: &str, arity: u16) -> bool {
-        let fresh = self.number_and_arity(name).is_none();
+    pub fn add(&mut self, name: &str, arity: u16) {
         self.entries.push((name.to_string(), arity));
-        fresh
     }
 
     pub fn len(&self) -> usize {
@@ -69,5 +67,5 @@ impl Symbols {
 
 /// The symbol table at the head of any text, of a book or of a certificate.
 pub fn names_in(text: &str) -> Result<Symbols, TextError> {
-    Reader::new(text)?.symbol_table()
+    Ok(Reader::new(text)?.symbol_table()?.symbols)
 }

@@ -4,7 +4,7 @@ use generate::faults::{accepted, failing, GOALS};
 use generate::random::Random;
 use second::spell::{pack_book, pack_certificate};
 use second::{judge, Verdict};
-use text::fields::{variable_name, variable_number};
+use text::terms::{variable_name, variable_number};
 use text::*;
 
 const BOOK: &str = include_str!("../examples/while.book.txt");
@@ -64,67 +64,6 @@ fn nothing_at_all() {
     assert_eq!(print_book(&[0, 0], None).unwrap(), "symbols.\n");
 }
 
-fn book_error(text: &str) -> String {
-    pack_book_text(text).unwrap_err().to_string()
-}
-
-fn certificate_error(text: &str) -> String {
-    let book = pack_book_text(BOOK).unwrap();
-    let text = format!("symbols gt/2, s/1, 0/0, add/3, while/2.\n{text}");
-    pack_certificate_text(&book, &text).unwrap_err().to_string()
-}
-
-#[test]
-fn refusals_of_the_writer_are_shown_with_their_place() {
-    assert_eq!(book_error("symbols s/1, 0/0.\ns(s(0))."), "2:3: refuse 5 0 10 0");
-    assert_eq!(book_error("symbols s/1, 0/0.\ns^{0,0}(0)."), "2:6: refuse 5 0 8 0");
-    assert_eq!(book_error("symbols s/1, 0/0.\ns^{1,0}(0)."), "2:4: refuse 4 0 7 0");
-    assert_eq!(book_error("symbols s/1, 0/9."), "1:16: refuse 4 0 2 0");
-    assert_eq!(book_error("symbols s/1.\ns(V64)."), "2:3: refuse 4 0 9 0");
-    assert_eq!(book_error("symbols s/1.\nX."), "2:1: refuse 4 0 4 0");
-    let closing = "closing line 0 k 0 alpha 0 {}";
-    assert_eq!(certificate_error(closing), "2:14: refuse 4 1 1 0");
-    let line = "line 0: unfold 0 -> empty by rule 9 stop 0 {}\n";
-    assert_eq!(certificate_error(&format!("{line}{closing}")), "2:35: refuse 4 1 5 0");
-    let wide = "line 0: unfold 0 -> empty by rule 0 stop 0 {}\nclosing line 0 k 4095 alpha 1 {}";
-    assert_eq!(certificate_error(wide), "3:29: refuse 4 1 10 0");
-    // A refusal in the book has no place in the certificate's text.
-    let error = pack_certificate_text(&[0], "symbols. closing line 0 k 0 alpha 0 {}");
-    assert_eq!(error.unwrap_err().to_string(), "refuse 3 0 8 0");
-}
-
-#[test]
-fn wrong_forms_are_named() {
-    assert_eq!(book_error("gt(X)."), "1:1: `symbols` expected");
-    assert_eq!(book_error("symbols gt/2. gt(X)."), "1:19: `gt` has 2 arguments: `,` expected");
-    assert_eq!(book_error("symbols gt/2. gt(X,X,X)."), "1:21: `gt` has 2 arguments: `)` expected");
-    let power = "1:15: only a unary symbol has a power, and `a` is not";
-    assert_eq!(book_error("symbols a/0. a^{0,1}."), power);
-    let unknown = "1:14: `b` is neither a symbol of the table nor a variable";
-    assert_eq!(book_error("symbols a/0. b."), unknown);
-    let twice = "1:14: `a` cannot be a symbol's name, or is one already";
-    assert_eq!(book_error("symbols a/0, a/1."), twice);
-    assert!(book_error("symbols empty/0.").contains("cannot be"));
-    assert!(book_error("symbols A/0.").contains("cannot be"));
-    assert_eq!(book_error("symbols a/0. a"), "2:1: `.` expected");
-    assert_eq!(book_error("symbols a/0. a ; a."), "1:16: the sign ';' has no meaning here");
-    assert_eq!(book_error("symbols a/70000."), "1:11: a number from 0 to 65535 expected");
-    assert_eq!(certificate_error("line 1:"), "2:6: this is line 0: lines are numbered from 0");
-    assert_eq!(certificate_error("line 0: fold"), "2:9: `unfold` expected");
-    let line = "line 0: unfold 0 -> 0 by rule 4 stop 2 {} here";
-    assert_eq!(certificate_error(line), "2:43: a `use` expected for each call before 2");
-    assert_eq!(
-        certificate_error("closing line 0 k 0 alpha 0 { x = 0 }"),
-        "2:30: `x` is not a variable: A to Z, or V and a number"
-    );
-    assert_eq!(
-        certificate_error("closing line 0 k 0 alpha 0 {} 0"),
-        "2:31: nothing may follow the closing"
-    );
-    let deep = format!("symbols s/1, r/1, 0/0. {}0{}.", "s(r(".repeat(5_000), "))".repeat(5_000));
-    assert!(book_error(&deep).ends_with("nested too deeply"));
-}
-
 #[test]
 fn variables_have_numbers() {
     for number in 0..64 {
@@ -144,4 +83,44 @@ fn variables_have_numbers() {
 fn names_must_fit_the_book() {
     let names = names_in("symbols a/0, b/0.").unwrap();
     assert!(matches!(print_book(&[0, 0], Some(&names)), Err(TextError::Names(_))));
+}
+
+/// The text with one piece of it cut out, doubled or exchanged.
+fn damaged(text: &str, random: &mut Random) -> String {
+    let letters: Vec<char> = text.chars().collect();
+    let at = random.below(letters.len());
+    let end = letters.len().min(at + 1 + random.below(9));
+    let (before, piece, after) = (&letters[..at], &letters[at..end], &letters[end..]);
+    let other = random.below(letters.len());
+    let new = match random.below(4) {
+        0 => Vec::new(),
+        1 => [piece, piece].concat(),
+        2 => vec!['#', ';', '9', 'X', '(', ' '][random.below(6)..].to_vec(),
+        _ => letters[other..letters.len().min(other + 9)].to_vec(),
+    };
+    [before, &new, after].concat().into_iter().collect()
+}
+
+/// Whatever is wrong, the message has its form and a place in the text.
+#[test]
+fn damaged_texts_get_a_message() {
+    let mut random = Random::new(31);
+    let book = pack_book_text(BOOK).unwrap();
+    let mut refused = 0;
+    for _ in 0..3_000 {
+        let text = damaged(BOOK, &mut random);
+        let other = damaged(CERTIFICATE, &mut random);
+        let errors = [pack_book_text(&text).err(), pack_certificate_text(&book, &other).err()];
+        for (text, error) in [text, other].into_iter().zip(errors) {
+            let Some(message) = error.map(|error| error.to_string()) else { continue };
+            let parts: Vec<&str> = message.splitn(3, ':').collect();
+            let line: usize = parts[0].parse().unwrap();
+            let column: usize = parts[1].parse().unwrap();
+            let letters = text.split('\n').nth(line - 1).unwrap().chars().count();
+            assert!(column >= 1 && column <= letters + 1, "{message}\n{text}");
+            assert!(parts[2].starts_with(" expected ") && parts[2].contains(", found "));
+            refused += 1;
+        }
+    }
+    assert!(refused > 3_000, "{refused}");
 }

@@ -137,32 +137,38 @@ fn error_of(text: &str) -> String {
 #[test]
 fn a_vector_is_held_to_its_answer() {
     assert!(parse_vectors(&format!("{LOOP}answer accept 0 0 0\n")).is_ok());
-    let wrong = "10:1: v: the answer is `accept 0 0 0`, not `accept 0 1 0`";
+    let wrong = "10:1: expected the answer `accept 0 0 0` of v, found `accept 0 1 0`";
     assert_eq!(error_of(&format!("{LOOP}answer accept 0 1 0\n")), wrong);
 }
 
 #[test]
 fn wrong_forms_are_named() {
-    assert_eq!(error_of(LOOP), "10:1: `answer` expected for the vector v");
-    assert_eq!(error_of("judge"), "1:1: `define NAME` or `vector NAME` expected");
-    assert_eq!(error_of("  judge"), "1:1: an indented line belongs to one before it");
-    assert_eq!(error_of("vector v\nbook two\n"), "2:1: no text is called two");
-    assert_eq!(error_of("vector v\nset 1 2\n"), "2:1: a file expected before it is changed");
-    assert_eq!(error_of("vector v\nanswer accept"), "2:1: the operation is missing");
+    assert_eq!(error_of(LOOP), "10:1: expected `answer` for the vector v, found the end");
+    let neither = "1:1: expected `define NAME` or `vector NAME`, found `judge`";
+    assert_eq!(error_of("judge"), neither);
+    let indented = "1:1: expected a line at the margin, found an indented one";
+    assert_eq!(error_of("  judge"), indented);
+    let unknown = "2:1: expected the name of a text, found `two`";
+    assert_eq!(error_of("vector v\nbook two\n"), unknown);
+    let early = "2:1: expected a file before it is changed, found `set 1 2`";
+    assert_eq!(error_of("vector v\nset 1 2\n"), early);
+    let nothing = "2:1: expected the operation, found none";
+    assert_eq!(error_of("vector v\nanswer accept"), nothing);
     let book = "vector v\nread-book\nbook\n    symbols a/0.\n    a.\n";
-    assert_eq!(error_of(&format!("{book}answer filled 6")), "6:1: `room` is missing");
+    assert_eq!(error_of(&format!("{book}answer filled 6")), "6:1: expected `room`, found none");
     assert_eq!(error_of(&format!("{book}set 9 0\n")), "6:1: there is no such field");
     assert_eq!(
         error_of(&format!("{book}keep 3 bytes\nset 0 0\n")),
-        "7:1: fields cannot be changed in bytes"
+        "7:1: expected fields to change, found bytes"
     );
-    assert_eq!(error_of(&format!("{book}add bytes 0\n")), "6:1: two digits expected for each byte");
+    let half = "6:1: expected two hex digits for each byte, found `0`";
+    assert_eq!(error_of(&format!("{book}add bytes 0\n")), half);
     assert_eq!(
         error_of("vector v\nbook\n    symbols a/0.\n    b.\n"),
-        "4:5: `b` is neither a symbol of the table nor a variable"
+        "4:5: expected a symbol of the table or a variable, found `b`"
     );
     let twice = "define d\n    symbols a/0. a. a.\nvector v\nbook d where a. is b.\n";
-    assert_eq!(error_of(twice), "4:1: `a.` stands 2 times in the text");
+    assert_eq!(error_of(twice), "4:1: expected `a.` once in the text, found it 2 times");
 }
 
 #[test]
@@ -173,14 +179,10 @@ fn repetitions_are_written_out() {
         repeat 1 to 2 [ s(r( ] c2 repeat 1 to 2 [ )) ].
         repeat 0 to 1 [ repeat # to # [ c#. ] c#+1. ] repeat 3 to 2 [ c0. ]";
     assert_eq!(packed(short), packed(long));
-    assert_eq!(packed("symbols a#/0."), Err("1:9: `#` stands only in a repeat".into()));
-    let open = "symbols a/0. repeat 1 to 2 [ a.";
-    assert_eq!(packed(open), Err("1:14: `]` expected for this repeat".into()));
-    let below = "symbols a/0. repeat 0 to 1 [ c#-1. ]";
-    let expected = "1:30: `#`, `#+1` or `#-1` expected, and no number below 0";
-    assert_eq!(packed(below), Err(expected.into()));
-    let endless = "symbols a/0. repeat 1 to 65535 [ repeat 1 to 65535 [ a. ] ]";
-    assert!(packed(endless).unwrap_err().ends_with("too much is repeated"));
     // A symbol may still be called repeat.
     assert!(packed("symbols repeat/0. repeat.").is_ok());
+    let book = text::pack_book_text("symbols repeat/0. repeat :- repeat.").unwrap();
+    let certificate = "symbols repeat/0. line 0: unfold repeat -> repeat by rule 0 stop 1 {} here
+        closing line 0 k 0 alpha 0 {}";
+    assert!(text::pack_certificate_text(&book, certificate).is_ok());
 }

@@ -1,6 +1,7 @@
 //! The contents of a file while a vector is being put together: text, fields or
 //! bytes, and changes of them.
 
+use crate::errors::expected_found;
 use second::spell::{pack, values, Field};
 
 /// Fields that can still be changed one by one, or bytes.
@@ -34,14 +35,14 @@ impl Contents {
     pub fn list(&self) -> Result<Vec<u16>, String> {
         match self {
             Contents::Fields(fields) => Ok(values(fields)),
-            Contents::Bytes(_) => Err("a list of fields expected, not bytes".to_string()),
+            Contents::Bytes(_) => Err(expected_found("a list of fields", "bytes")),
         }
     }
 
     fn fields_mut(&mut self) -> Result<&mut Vec<Field>, String> {
         match self {
             Contents::Fields(fields) => Ok(fields),
-            Contents::Bytes(_) => Err("fields cannot be changed in bytes".to_string()),
+            Contents::Bytes(_) => Err(expected_found("fields to change", "bytes")),
         }
     }
 
@@ -72,11 +73,11 @@ impl Contents {
             ["add", "bytes", more @ ..] => self.bytes_mut()?.extend(from_hex(more)?),
             ["zeros", "to", length] => self.bytes_mut()?.resize(number(length)?, 0),
             ["flip", place] => {
-                let place: usize = place.parse().map_err(|_| "a bit's number expected")?;
+                let place: usize = place.parse().map_err(|_| not_a("a bit's number", place))?;
                 let byte = self.bytes_mut()?.get_mut(place / 8).ok_or("there is no such bit")?;
                 *byte ^= 0x80 >> (place % 8);
             }
-            _ => return Err("this change is not known".to_string()),
+            _ => return Err(not_a("a change", &words.join(" "))),
         }
         Ok(())
     }
@@ -85,7 +86,11 @@ impl Contents {
 /// A number of 16 bits.
 pub fn number(word: &str) -> Result<usize, String> {
     let number = word.parse::<u16>();
-    number.map(usize::from).map_err(|_| format!("`{word}` is not a number from 0 to 65535"))
+    number.map(usize::from).map_err(|_| not_a("a number from 0 to 65535", word))
+}
+
+fn not_a(expected: &str, word: &str) -> String {
+    expected_found(expected, format!("`{word}`"))
 }
 
 pub fn from_hex(words: &[&str]) -> Result<Vec<u8>, String> {
@@ -94,5 +99,6 @@ pub fn from_hex(words: &[&str]) -> Result<Vec<u8>, String> {
         let pair = std::str::from_utf8(pair).ok().filter(|pair| pair.len() == 2);
         pair.and_then(|pair| u8::from_str_radix(pair, 16).ok())
     });
-    pairs.collect::<Option<Vec<u8>>>().ok_or("two digits expected for each byte".to_string())
+    let bytes = pairs.collect::<Option<Vec<u8>>>();
+    bytes.ok_or_else(|| not_a("two hex digits for each byte", &words.join(" ")))
 }

@@ -3,6 +3,7 @@
 
 mod contents;
 mod parsing;
+mod rewriting;
 
 pub use parsing::parse_vectors;
 

@@ -1,9 +1,11 @@
 //! From the text of vectors to vectors.
 
 use super::contents::{from_hex, number, Contents, LISTED};
+use super::rewriting::rewritten;
 use super::{frame, File, Operation, Vector, USUAL_WORK};
+use crate::errors::expected_found;
 use crate::lexer::Position;
-use crate::packing::{book_fields, certificate_fields_over};
+use crate::statements::{book_fields, certificate_fields_over};
 use crate::symbols::Symbols;
 use crate::TextError;
 use second::spell::Field;
@@ -48,15 +50,18 @@ pub fn parse_vectors(text: &str) -> Read<Vec<Vector>> {
                 draft = None;
             }
             (_, Some(begun)) => begun.take(&section, &texts)?,
-            _ => return section.wrong("`define NAME` or `vector NAME` expected"),
+            (words, None) => {
+                let expected = "`define NAME` or `vector NAME`";
+                return section.wrong(expected_found(expected, format!("`{}`", words.join(" "))));
+            }
         }
     }
     match draft {
         None => Ok(vectors),
         Some(begun) => {
             let position = Position { line: text.lines().count() + 1, column: 1 };
-            let message = format!("`answer` expected for the vector {}", begun.name);
-            Err(TextError::Form { position, message })
+            let expected = format!("`answer` for the vector {}", begun.name);
+            TextError::expected(position, expected, "the end")
         }
     }
 }
@@ -65,7 +70,10 @@ fn held_to_its_answer(vector: &Vector) -> Result<(), String> {
     let found = vector.outcome().answer;
     match found == vector.answer {
         true => Ok(()),
-        false => Err(format!("{}: the answer is `{found}`, not `{}`", vector.name, vector.answer)),
+        false => {
+            let expected = format!("the answer `{found}` of {}", vector.name);
+            Err(expected_found(expected, format!("`{}`", vector.answer)))
+        }
     }
 }
 
@@ -84,8 +92,7 @@ fn sections(text: &str) -> Read<Vec<Section<'_>>> {
             }
             (None, true) => {
                 let position = Position { line: number + 1, column: 1 };
-                let message = "an indented line belongs to one before it".to_string();
-                return Err(TextError::Form { position, message });
+                return TextError::expected(position, "a line at the margin", "an indented one");
             }
             (_, false) => {
                 let words = content.split_whitespace().collect();
@@ -162,7 +169,8 @@ impl Draft {
                     None => None,
                 };
                 let Some(contents) = contents else {
-                    return section.wrong("a file expected before it is changed");
+                    let found = format!("`{}`", change.join(" "));
+                    return section.wrong(expected_found("a file before it is changed", found));
                 };
                 contents.change(change).or_else(|fault| section.wrong(fault))?;
             }
@@ -190,12 +198,16 @@ impl Draft {
                 Ok(Contents::Fields(fields.or_else(|fault| section.wrong(fault))?))
             }
             [name, changes @ ..] => {
-                let text = texts.get(*name).ok_or(format!("no text is called {name}"));
+                let unknown = || expected_found("the name of a text", format!("`{name}`"));
+                let text = texts.get(*name).ok_or_else(unknown);
                 let text = text.and_then(|text| rewritten(text, changes));
                 self.of_text(which, &text.or_else(|fault| section.wrong(fault))?)
             }
             [] if section.has_body() => self.of_text(which, &section.body),
-            _ => section.wrong("`bytes`, `fields`, a name or indented text expected"),
+            _ => {
+                let expected = "`bytes`, `fields`, a name or indented text";
+                section.wrong(expected_found(expected, "nothing"))
+            }
         }
     }
 
@@ -215,7 +227,7 @@ impl Draft {
         let length = match words {
             [] => None,
             [length] => Some(number(length)? as u16),
-            _ => return Err("`frame` or `frame LENGTH` expected".to_string()),
+            _ => return Err(expected_found("`frame` or `frame LENGTH`", "more words")),
         };
         let book = bytes_of(&self.book)?;
         let certificate = bytes_of(&self.certificate)?;
@@ -223,8 +235,8 @@ impl Draft {
     }
 
     fn finished(&self, answer: &[&str]) -> Result<Vector, String> {
-        let operation = self.operation.ok_or("the operation is missing")?;
-        let room = || self.room.ok_or("`room` is missing".to_string());
+        let operation = self.operation.ok_or(expected_found("the operation", "none"))?;
+        let room = || self.room.ok_or(expected_found("`room`", "none"));
         let (book, certificate) = (&self.book, &self.certificate);
         let (first, second, lent) = match operation {
             Operation::Judge => {
@@ -254,34 +266,10 @@ impl Draft {
     }
 }
 
-/// `where OLD is NEW and OLD is NEW ...`: what is replaced stands exactly once in the
-/// text. After `wherever` it may stand there more often.
-fn rewritten(text: &str, words: &[&str]) -> Result<String, String> {
-    let (changes, once) = match words {
-        [] => return Ok(text.to_string()),
-        ["where", changes @ ..] => (changes, true),
-        ["wherever", changes @ ..] => (changes, false),
-        _ => return Err("`where OLD is NEW` expected after the name".to_string()),
-    };
-    let mut text = text.to_string();
-    for change in changes.split(|word| *word == "and") {
-        let mut sides = change.split(|word| *word == "is");
-        let (old, new) = match (sides.next(), sides.next(), sides.next()) {
-            (Some(old), Some(new), None) => (old.join(" "), new.join(" ")),
-            _ => return Err("`OLD is NEW` expected".to_string()),
-        };
-        match text.matches(&old).count() {
-            count if count == 1 || count > 1 && !once => text = text.replace(&old, &new),
-            count => return Err(format!("`{old}` stands {count} times in the text")),
-        }
-    }
-    Ok(text)
-}
-
 fn bytes_of(contents: &Option<Contents>) -> Result<Vec<u8>, String> {
-    contents.as_ref().ok_or("a file is missing")?.bytes()
+    contents.as_ref().ok_or(expected_found("a file", "none"))?.bytes()
 }
 
 fn list_of(contents: &Option<Contents>) -> Result<Vec<u16>, String> {
-    contents.as_ref().ok_or("a file is missing")?.list()
+    contents.as_ref().ok_or(expected_found("a file", "none"))?.list()
 }

@@ -1,0 +1,62 @@
+//! Asks the proved judge of a book and a certificate, and tells its answer: first the
+//! line of the program `judge`, then the same in words.
+
+use gearcinder::{Acceptance, WORK_NUMBERS};
+use second::files::parse_both;
+use std::process::ExitCode;
+use text::inputs::{book_of, certificate_of};
+use text::shell::{run_with, Failure, Outcome, DONE, REFUSED, UNDONE};
+use text::words::verdict_words;
+
+const HELP: &str = "gearcinder-judge BOOK CERTIFICATE
+    judges the certificate, and prints the answer as a line and in words
+gearcinder-judge --version
+
+BOOK and CERTIFICATE are packed files, or text if the name ends in `.txt`; a hyphen
+is standard input. The status is 0 if the certificate is accepted, 1 if it is
+refused, and 2 if the judge could not be asked or the answer could not be written.
+";
+
+fn main() -> ExitCode {
+    run_with(|words| match words {
+        ["help" | "--help" | "-h"] => Ok((HELP.into(), DONE)),
+        ["--version"] => Ok((version().into_bytes(), DONE)),
+        [book, certificate] if ![book, certificate].iter().any(|word| is_option(word)) => {
+            // Here 1 means that the judge refused, and nothing else.
+            judged(book, certificate).map_err(|failure| Failure { status: UNDONE, ..failure })
+        }
+        _ => Err(Failure::undone(HELP.trim_end())),
+    })
+}
+
+fn is_option(word: &str) -> bool {
+    word.starts_with('-') && word != "-"
+}
+
+fn version() -> String {
+    format!("gearcinder-judge {}\n", env!("CARGO_PKG_VERSION"))
+}
+
+fn judged(book: &str, certificate: &str) -> Outcome {
+    let book = book_of(book)?;
+    let certificate = certificate_of(&book, certificate)?;
+    let mut work = vec![0; WORK_NUMBERS];
+    let verdict = gearcinder::judge(&book.bytes, &certificate, &mut work);
+    let read = parse_both(&book.bytes, &certificate).ok();
+    let words = verdict_words(&plain(verdict), read.as_ref().map(|(_, certificate)| certificate));
+    let status = if verdict.is_accepted() { DONE } else { REFUSED };
+    Ok((format!("{verdict}\n{words}\n").into_bytes(), status))
+}
+
+/// The answer as the words take it.
+fn plain(verdict: gearcinder::Verdict) -> second::Verdict {
+    match verdict {
+        gearcinder::Verdict::Accepted(Acceptance { line, k, alpha }) => {
+            second::Verdict::Accepted { line, k, alpha }
+        }
+        gearcinder::Verdict::Refused(refusal) => {
+            let gearcinder::Refusal { number, place, a, b } = refusal;
+            second::Verdict::Refused(second::Refusal::new(number, place as u8, a, b))
+        }
+    }
+}

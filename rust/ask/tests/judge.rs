@@ -1,0 +1,161 @@
+//! The program `gearcinder-judge`: answers, words, status.
+
+use std::fs::OpenOptions;
+use std::path::{Path, PathBuf};
+use std::process::{Command, Output, Stdio};
+
+const BOOK: &str = include_str!("../../text/examples/while.book.txt");
+const CERTIFICATE: &str = include_str!("../../text/examples/while.certificate.txt");
+
+/// A folder with the document's example, as text and packed.
+fn folder(name: &str) -> PathBuf {
+    let folder = Path::new(env!("CARGO_TARGET_TMPDIR")).join(name);
+    std::fs::create_dir_all(&folder).unwrap();
+    let put = |name: &str, bytes: &[u8]| std::fs::write(folder.join(name), bytes).unwrap();
+    put("book.txt", BOOK.as_bytes());
+    put("certificate.txt", CERTIFICATE.as_bytes());
+    let book = text::pack_book_text(BOOK).unwrap();
+    put("certificate", &text::pack_certificate_text(&book, CERTIFICATE).unwrap());
+    put("book", &book);
+    folder
+}
+
+fn tool(folder: &Path, words: &[&str]) -> Command {
+    let mut command = Command::new(env!("CARGO_BIN_EXE_gearcinder-judge"));
+    command.args(words).current_dir(folder).stdin(Stdio::null());
+    command
+}
+
+fn run(folder: &Path, words: &[&str]) -> Output {
+    tool(folder, words).output().unwrap()
+}
+
+fn said(bytes: &[u8]) -> &str {
+    std::str::from_utf8(bytes).unwrap()
+}
+
+fn answers(output: Output, status: i32, expected: &str) {
+    assert_eq!((said(&output.stdout), said(&output.stderr)), (expected, ""));
+    assert_eq!(output.status.code(), Some(status));
+}
+
+fn stops(output: Output, message: &str) {
+    assert_eq!((said(&output.stdout), said(&output.stderr)), ("", message));
+    assert_eq!(output.status.code(), Some(2));
+}
+
+#[test]
+fn accepted() {
+    let folder = folder("accepted");
+    let expected = "accept 4 1 1\naccepted: line 4, k = 1, alpha = 1: each call of its left, at \
+                    index 1 or later, has derivations of every length, by some choice of rules\n";
+    for book in ["book", "book.txt"] {
+        for certificate in ["certificate", "certificate.txt"] {
+            answers(run(&folder, &[book, certificate]), 0, expected);
+        }
+    }
+    let input = std::fs::File::open(folder.join("certificate")).unwrap();
+    answers(tool(&folder, &["book", "-"]).stdin(input).output().unwrap(), 0, expected);
+}
+
+/// The certificate with one change, as text.
+fn changed(folder: &Path, old: &str, new: &str) -> Output {
+    assert_eq!(CERTIFICATE.matches(old).count(), 1, "{old}");
+    std::fs::write(folder.join("changed.txt"), CERTIFICATE.replace(old, new)).unwrap();
+    run(folder, &["book", "changed.txt"])
+}
+
+#[test]
+fn refused() {
+    let folder = folder("refused");
+    let cases = [
+        (
+            "alpha 1",
+            "alpha 0",
+            "refuse 15 3 4 1\nrefused with 15 in the closing, line 4, part 1: right by (1, alpha) \
+             is not left by (1, alpha + k), filled\n",
+        ),
+        (
+            "closing line 4",
+            "closing line 3",
+            "refuse 14 3 3 0\nrefused with 14 in the closing, line 3, part 0: right is the empty \
+             mark\n",
+        ),
+        (
+            "line 3: descent add(X, s^{1,0}(0),",
+            "line 3: descent add(X, s^{2,0}(0),",
+            "refuse 9 2 3 2\nrefused with 9 in line 3, a descent, part 2: the rule's head, \
+             filled, is not left by (1, 1)\n",
+        ),
+        (
+            "use 3 (1,0) { X = s^{1,1}(X) }",
+            "use 3 (1,0) {}",
+            "refuse 10 2 4 2\nrefused with 10 in line 4, an unfold, part 2: the rule's call 2, \
+             filled, is not left of its use\n",
+        ),
+    ];
+    for (old, new, expected) in cases {
+        answers(changed(&folder, old, new), 1, expected);
+    }
+    let whole = std::fs::read(folder.join("certificate")).unwrap();
+    std::fs::write(folder.join("cut"), &whole[..whole.len() - 1]).unwrap();
+    let cut = run(&folder, &["book", "cut"]);
+    assert!(said(&cut.stdout).starts_with("refuse 3 1 "), "{}", said(&cut.stdout));
+    assert!(said(&cut.stdout).contains("\nrefused with 3 in the certificate, at bit "));
+    assert_eq!(cut.status.code(), Some(1));
+    std::fs::write(folder.join("long"), vec![0; 16_385]).unwrap();
+    let expected = "refuse 2 0 0 0\nrefused with 2 in the book: it has over 16,384 bytes\n";
+    answers(run(&folder, &["long", "certificate"]), 1, expected);
+}
+
+#[test]
+fn not_asked() {
+    let folder = folder("not_asked");
+    let missing = "nowhere: No such file or directory (os error 2)\n";
+    stops(run(&folder, &["book", "nowhere"]), missing);
+    stops(run(&folder, &["nowhere", "certificate"]), missing);
+    stops(run(&folder, &[".", "certificate"]), ".: Is a directory (os error 21)\n");
+    std::fs::write(folder.join("wrong.txt"), "foo").unwrap();
+    let wrong = "wrong.txt:1:1: expected `symbols`, found `foo`\n";
+    stops(run(&folder, &["book", "wrong.txt"]), wrong);
+    stops(run(&folder, &["wrong.txt", "certificate"]), wrong);
+    let help = run(&folder, &["help"]);
+    for words in [&[][..], &["book"], &["book", "certificate", "more"], &["--now", "book"]] {
+        stops(run(&folder, words), said(&help.stdout));
+    }
+    answers(run(&folder, &["--help"]), 0, said(&help.stdout));
+    answers(run(&folder, &["-h"]), 0, said(&help.stdout));
+    let version = format!("gearcinder-judge {}\n", env!("CARGO_PKG_VERSION"));
+    answers(run(&folder, &["--version"]), 0, &version);
+}
+
+#[test]
+fn an_answer_that_cannot_be_written() {
+    let folder = folder("full");
+    let message = "standard output: No space left on device (os error 28)\n";
+    for words in [&["book", "certificate"][..], &["help"], &["--version"]] {
+        let full = OpenOptions::new().write(true).open("/dev/full").unwrap();
+        stops(tool(&folder, words).stdout(full).output().unwrap(), message);
+    }
+}
+
+/// JUDGE, if it is set, names the program `judge`, built before. Over the same files,
+/// framed, it prints the same line, and nothing else; it takes no notice of arguments.
+#[test]
+fn the_program_prints_the_same_line() {
+    let Ok(program) = std::env::var("JUDGE") else { return };
+    let folder = folder("program");
+    for (name, length) in [("certificate", 10_000), ("cut", 20)] {
+        let book = text::inputs::book_of(folder.join("book").to_str().unwrap()).unwrap();
+        let whole = std::fs::read(folder.join("certificate")).unwrap();
+        let certificate = &whole[..whole.len().min(length)];
+        std::fs::write(folder.join(name), certificate).unwrap();
+        let input = text::inputs::framed(&book, certificate).unwrap();
+        std::fs::write(folder.join("input"), input).unwrap();
+        let input = std::fs::File::open(folder.join("input")).unwrap();
+        let printed = Command::new(&program).arg("book").stdin(input).output().unwrap();
+        let told = run(&folder, &["book", name]);
+        let line = said(&told.stdout).split_inclusive('\n').next().unwrap();
+        assert_eq!(said(&printed.stdout), line);
+    }
+}
