@@ -44,6 +44,25 @@ fn stops(output: Output, message: &str) {
     assert_eq!(output.status.code(), Some(2));
 }
 
+/// The text tool hands its `judge` on to this program, which lies beside it.
+#[test]
+fn asked_by_the_text_tool() {
+    let folder = folder("asked");
+    let tool = Path::new(env!("CARGO_BIN_EXE_gearcinder-judge")).with_file_name("gearcinder-text");
+    assert!(tool.exists(), "the text tool is built with the whole workspace");
+    let run =
+        |words: &[&str]| Command::new(&tool).args(words).current_dir(&folder).output().unwrap();
+    let accepted = run(&["judge", "book.txt", "certificate.txt"]);
+    assert_eq!(accepted.status.code(), Some(0));
+    assert!(said(&accepted.stdout).starts_with("accept 4 1 1\naccepted: line 4"));
+    let refused = run(&["judge", "book", "book"]);
+    assert_eq!(refused.status.code(), Some(1));
+    assert!(said(&refused.stdout).starts_with("refuse "));
+    let unread = run(&["judge", "book", "nowhere"]);
+    assert_eq!(unread.status.code(), Some(2));
+    assert!(said(&unread.stderr).starts_with("nowhere: "));
+}
+
 #[test]
 fn accepted() {
     let folder = folder("accepted");

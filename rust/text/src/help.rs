@@ -9,7 +9,7 @@ struct Command {
     does: &'static str,
 }
 
-const COMMANDS: [Command; 8] = [
+const COMMANDS: [Command; 9] = [
     Command { name: "pack-book", arguments: "[TEXT]", does: "packs the text of a book" },
     Command {
         name: "pack-certificate",
@@ -32,6 +32,11 @@ const COMMANDS: [Command; 8] = [
         does: "makes the input of the program `judge`",
     },
     Command {
+        name: "judge",
+        arguments: "BOOK CERTIFICATE",
+        does: "asks the proved judge: status 0 accepted, 1 refused, 2 not asked",
+    },
+    Command {
         name: "pack-vectors",
         arguments: "VECTORS OUTPUT TEXT...",
         does: "packs test vectors into the file VECTORS, and what they must print into OUTPUT",
@@ -50,7 +55,8 @@ A hyphen is standard input, and so is a last file that is left out.
 The result goes to standard output. `--names` takes the symbols' names from a text.
 The status is 0 if all is well, 1 if a text or a file is refused, 2 if the command
 is not understood, a file can't be read, or a write fails.
-`gearcinder-judge BOOK CERTIFICATE` asks the proved judge; docs/TEXT.md has it all.
+`judge` runs the program gearcinder-judge, which is built beside this one; docs/TEXT.md
+has it all.
 ";
 
 impl Command {

@@ -4,16 +4,32 @@ mod help;
 
 use help::{help, misused};
 use std::collections::BTreeSet;
-use std::process::ExitCode;
+use std::process::{Command, ExitCode};
 use text::inputs::{book_of, certificate_of, framed, packed_book, packed_certificate, Book};
-use text::shell::{called, run_with, text_of, write_file, Failure, DONE};
+use text::shell::{called, run_with, text_of, write_file, Failure, Outcome, DONE, UNDONE};
 use text::vectors::{expected_output, pack_vectors, parse_vectors, Vector};
 use text::{names_in, print_book, print_certificate, Symbols, TextError};
 
 type Done = Result<Vec<u8>, Failure>;
 
 fn main() -> ExitCode {
-    run_with(|words| Ok((told(words)?, DONE)))
+    run_with(|words| match words {
+        ["judge", book, certificate] => judged(book, certificate),
+        _ => Ok((told(words)?, DONE)),
+    })
+}
+
+/// Lets the program `gearcinder-judge`, which is built beside this one, answer; so only whoever
+/// asks the judge needs the proved library.
+fn judged(book: &str, certificate: &str) -> Outcome {
+    let program = std::env::current_exe().map(|own| own.with_file_name("gearcinder-judge"));
+    let asked = program.and_then(|judge| Command::new(judge).args([book, certificate]).status());
+    match asked {
+        Ok(status) => Ok((Vec::new(), status.code().map_or(UNDONE, |code| code as u8))),
+        Err(error) => {
+            Err(Failure::undone(format!("gearcinder-judge, beside this program: {error}")))
+        }
+    }
 }
 
 /// What the tool says of itself, or what a command makes.
