@@ -96,21 +96,17 @@ class Declaration:
 
     def __init__(self, file, name, marks, kind, around):
         self.file, self.name, self.kind, self.around = file, name, kind, around
-        self.public = "pub" in marks
+        self.public, self.stating = "pub" in marks, True
         self.lines, self.head, self.members = [], [], []
 
     def add(self, line, level):
         text = line[level:]
-        if not self.lines:
-            self.open = True
-        elif self.open and (text.startswith("unfolding ") or self.clause(text)):
-            self.open = False
+        if self.lines:
+            self.stating = self.stating and not text.startswith("unfolding ") and not self.clause(text)
+            member = MEMBER.match(text[2:]) if self.kind and text.startswith("  ") else None
+            self.members += [member.group(1)] if member else []
         self.lines.append(line)
-        if self.open:
-            self.head.append(line)
-        member = MEMBER.match(line[level + 2:]) if self.kind and line.startswith(" " * (level + 2)) else None
-        if member and len(self.lines) > 1:
-            self.members.append(member.group(1))
+        self.head += [line] if self.stating else []
 
     def clause(self, text):
         return not text.startswith(" ") and words(text)[:1] == [self.name]
@@ -123,46 +119,76 @@ class Declaration:
         return self.text() if self.kind else bare("\n".join(self.around + self.head))
 
 
+class Blocks:
+    """The blocks that a line of an antt file stands in: how far they are indented, and the telescopes of the modules."""
+
+    def __init__(self):
+        self.around, self.heading = [(0, [])], None
+
+    @property
+    def level(self):
+        return self.around[-1][0]
+
+    def telescopes(self):
+        return [row for _, rows in self.around for row in rows]
+
+    def enter(self, telescope):
+        self.around.append((self.level + 2, telescope))
+        self.heading = None
+
+    def leave(self, indent):
+        """Whether the line ends a block."""
+        inside = len(self.around)
+        while indent < self.level:
+            self.around.pop()
+        return len(self.around) < inside
+
+    def opens(self, line, indent):
+        """Whether the line opens a block, or goes on with the telescope of one."""
+        text = line.strip()
+        if self.heading is not None and indent > self.level:
+            self.heading.append(line)
+        elif indent == self.level and text.startswith("module _"):
+            self.heading = [line]
+        elif indent == self.level and re.match(r"(unfoldable |abbrev )?mutual$", text):
+            self.enter([])
+            return True
+        else:
+            self.heading = None
+            return False
+        if text.endswith("where"):
+            self.enter(self.heading)
+        return True
+
+
+def begun(path, text, blocks):
+    """The declaration that a line begins, or None."""
+    kind, signature = TYPE.match(text), SIGNATURE.match(text)
+    if kind:
+        return Declaration(path, kind.group(3), kind.group(1), kind.group(2), blocks.telescopes())
+    if signature:
+        return Declaration(path, signature.group(2), signature.group(1), None, blocks.telescopes())
+    return None
+
+
 def declarations(path):
-    """The declarations of an antt file, those in `module _` blocks with the others."""
-    levels, telescopes, found, current, heading = [0], [[]], [], None, None
-    for line in read(path).split("\n"):
-        if not line.strip():
-            continue
-        indent = len(line) - len(line.lstrip())
-        if heading is not None and indent > levels[-1]:
-            heading.append(line)
-            if line.rstrip().endswith("where"):
-                levels, telescopes, heading = levels + [levels[-1] + 2], telescopes + [heading], None
-            continue
-        while indent < levels[-1]:
-            levels, telescopes, current = levels[:-1], telescopes[:-1], None
-        level, text = levels[-1], line.strip()
-        if indent > level:
+    """The declarations of an antt file, those in `module _` and `mutual` blocks with the others."""
+    blocks, found, current = Blocks(), [], None
+    for line in filter(str.strip, read(path).split("\n")):
+        indent, text = len(line) - len(line.lstrip()), line.strip()
+        if blocks.leave(indent) or blocks.heading is not None:
+            current = None
+        if blocks.opens(line, indent):
+            current = None
+        elif indent > blocks.level:
             if current is not None:
-                current.add(line, level)
-            continue
-        if text.startswith("--") or re.match(r"(pub |unfoldable )*(use|mod) |infix", text):
-            continue
-        if re.match(r"(unfoldable |abbrev )?mutual$", text):
-            levels, telescopes, current = levels + [level + 2], telescopes + [[]], None
-            continue
-        if text.startswith("module _"):
-            heading, current = [line], None
-            if text.endswith("where"):
-                levels, telescopes, heading = levels + [level + 2], telescopes + [heading], None
-            continue
-        kind, signature = TYPE.match(text), SIGNATURE.match(text)
-        if kind or signature:
-            marks, name = (kind.group(1), kind.group(3)) if kind else signature.groups()
-            around = [row for rows in telescopes for row in rows]
-            current = Declaration(path, name, marks, kind and kind.group(2), around)
-            found.append(current)
-        elif not (current and current.clause(text)):
-            named = [d for d in found if d.clause(text)]
-            current = named[-1] if named else current
-        if current is not None:
-            current.add(line, level)
+                current.add(line, blocks.level)
+        elif not re.match(r"--|(pub |unfoldable )*(use|mod) |infix", text):
+            new = begun(path, text, blocks)
+            found += [new] if new else []
+            current = new or next((d for d in reversed(found) if d.clause(text)), current)
+            if current is not None:
+                current.add(line, blocks.level)
     return found
 
 
@@ -211,7 +237,7 @@ class Tree:
         """The declarations that a text names, in the order in which it names them."""
         found = []
         for word in words(text):
-            for name in {word, word.strip("_")} | {f"_{word}_"}:
+            for name in (word, word.strip("_"), f"_{word}_"):
                 if name in scope and scope[name] not in found:
                     found.append(scope[name])
         return found

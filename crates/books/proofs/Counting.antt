@@ -16,8 +16,8 @@ use Rattle.fields.specs.Kinds.{Kind as kind}
 use Rattle.fields.specs.Grammar.{Grammar, done, bind, field}
 use Rattle.fields.specs.Run.{State, state, Result, run, Ran}
 use Rattle.fields.specs.Run.Result.{ok, no}
-use Rattle.fields.proofs.Seqs.{go-on, run-bind, found, refused, ran-ok, ran-no}
-use Rattle.fields.proofs.Always.{Always, always-bind, always-then, always-run, always-weaken, field-below}
+use Rattle.fields.proofs.Seqs.{go-on, run-bind, found, refused, ran-no}
+use Rattle.fields.proofs.Always.{Always, always-bind, always-then, always-handed, always-told, always-weaken, field-below}
 use Rattle.fields.proofs.Many.{Many, none-left, some-left, many-length}
 use Rattle.grammar.specs.Terms.{root-term}
 use Rattle.grammar.specs.Books.{arities-of, roots-of, a-rule-of, a-rule, rules-of}
@@ -48,22 +48,16 @@ rule-calls ar n =
 pub rule-counted : {src : Source} (ar : ℕ → ℕ) (n : ℕ) {c d : Cursor} {ws bs ws₁ bs₁ : List ℕ} {r : Walk} {v : ℕ}
     → Ran src (a-rule-of ar n) c ws bs nothing r ws₁ bs₁ → r ≡ On v d
     → Ran src (a-rule-of ar n) c ws bs callsOf (On n d) ws₁ bs₁
-rule-counted {src} ar n {c} {d} {ws} {bs} {ws₁} {bs₁} h e =
-    let x = found h e in
-    let k = always-run (λ r. callsOf r ≡ n) src (a-rule-of ar n) (rule-calls ar n) (state c ws bs) (x .0) (state d ws₁ bs₁) (x .2) in
-    ran-ok (x .2) (sym k)
+rule-counted ar n h e = always-told h e callsOf n (rule-calls ar n)
 
 -- a rule has at most 8 calls
 pub rule-few : {src : Source} (ar : ℕ → ℕ) {c d : Cursor} {ws bs ws₁ bs₁ : List ℕ} {r : Walk} {n : ℕ}
     → Ran src (a-rule ar) c ws bs callsOf r ws₁ bs₁ → r ≡ On n d → n ≤ 8
 unfolding a-rule
-rule-few {src} ar {c} {d} {ws} {bs} {ws₁} {bs₁} h e =
-    let x = found h e in
-    subst (λ k. k ≤ 8) (x .1)
-    (always-run (λ r. callsOf r ≤ 8) src (a-rule ar)
+rule-few ar h e =
+    always-handed h e (λ k. k ≤ 8)
     (always-bind (λ v. v < 9) (λ r. callsOf r ≤ 8) _ (field kind.call-count (from-to 0 9)) (field-below kind.call-count 0 9)
     (λ v k. always-weaken (λ r. callsOf r ≡ v) (λ r. callsOf r ≤ 8) (λ r q. omega arith) (a-rule-of ar v) (rule-calls ar v)))
-    (state c ws bs) (x .0) (state d ws₁ bs₁) (x .2))
 
 -- ---- what is noted
 
@@ -123,12 +117,7 @@ rule-refused ar n h e = ran-no (refused h e)
 module _ {src : Source} (ar : ℕ → ℕ) (n : ℕ) {c d : Cursor} {ws bs ws₁ bs₁ : List ℕ} {r : Walk} (h : Ran src (rules-of ar n) c ws bs nothing r ws₁ bs₁) where
   -- there are as many rules as were asked for
   pub rules-all : {v : ℕ} → r ≡ On v d → Ran src (rules-of ar n) c ws bs rulesOf (On n d) ws₁ bs₁
-  rules-all e =
-      let x = found h e in
-      ran-ok (x .2)
-      (sym
-      (always-run (λ rs. rulesOf rs ≡ n) src (rules-of ar n) (many-length (rules-of ar) (a-rule ar) (λ r. r) (rules-many ar) n) (state c ws bs)
-      (x .0) (state d ws₁ bs₁) (x .2)))
+  rules-all e = always-told h e rulesOf n (many-length (rules-of ar) (a-rule ar) (λ r. r) (rules-many ar) n)
 
   pub rules-refused : {m : ℕ} → r ≡ No m d → Ran src (rules-of ar n) c ws bs rulesOf (No m d) ws₁ bs₁
   rules-refused e = ran-no (refused h e)

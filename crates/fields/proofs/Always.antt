@@ -1,6 +1,6 @@
 -- What is true of every tree that a grammar gives, whatever the source.
 use Prim.Native.Nat.{ℕ, _<_}
-use mathlib.Core.Path.{_≡_, refl, subst}
+use mathlib.Core.Path.{_≡_, refl, sym, subst}
 use mathlib.Core.List.{List}
 use mathlib.Core.Option.{Option, none, some}
 use native.Mathlib.Omega.{arith}
@@ -8,7 +8,7 @@ use Rattle.fields.specs.declared.Cursor.{Cursor}
 use Rattle.fields.specs.declared.Walk.{Walk}
 use Rattle.fields.specs.declared.Walk.the-variants.{On}
 use Rattle.fields.proofs.Ranges.{within-none}
-use Rattle.fields.proofs.Seqs.{found}
+use Rattle.fields.proofs.Seqs.{found, ran-ok}
 use Rattle.fields.specs.declared.Field.{Field}
 use Rattle.fields.specs.declared.Field.the-variants.{Got, Bad}
 use Rattle.fields.specs.Source.{Source}
@@ -66,9 +66,19 @@ pub field-below : (k : Kind) (least end : ℕ) → Always (λ v. v < end) (field
 unfolding Always field
 field-below k least end v t = within-none least end 4 v t .1
 
+module _ {A : Type 0} {src : Source} {p : Grammar A} {c d : Cursor} {ws bs ws₁ bs₁ : List ℕ} {val : A → ℕ} {r : Walk} {v : ℕ} (h : Ran src p c ws bs val r ws₁ bs₁) (e : r ≡ On v d) where
+  -- what is true of the number of every tree is true of the number that a walk hands back
+  pub always-handed : (Q : ℕ → Type 0) → Always (λ a. Q (val a)) p → Q v
+  always-handed Q k =
+      let x = found h e in
+      subst Q (x .1) (always-run (λ a. Q (val a)) src p k (state c ws bs) (x .0) (state d ws₁ bs₁) (x .2))
+
+  -- a number that every tree has may be handed back
+  pub always-told : (num : A → ℕ) (n : ℕ) → Always (λ a. num a ≡ n) p → Ran src p c ws bs num (On n d) ws₁ bs₁
+  always-told num n k =
+      let x = found h e in
+      ran-ok (x .2) (sym (always-run (λ a. num a ≡ n) src p k (state c ws bs) (x .0) (state d ws₁ bs₁) (x .2)))
+
 pub taken-below : {src : Source} (k : Kind) (least end : ℕ) {c d : Cursor} {ws bs ws₁ bs₁ : List ℕ} {r : Walk} {v : ℕ}
     → Ran src (field k (from-to least end)) c ws bs (λ v. v) r ws₁ bs₁ → r ≡ On v d → v < end
-taken-below {src} k least end {c} {d} {ws} {bs} {ws₁} {bs₁} h e =
-    let x = found h e in
-    subst (λ n. n < end) (x .1)
-    (always-run (λ v. v < end) src (field k (from-to least end)) (field-below k least end) (state c ws bs) (x .0) (state d ws₁ bs₁) (x .2))
+taken-below k least end h e = always-handed h e (λ v. v < end) (field-below k least end)

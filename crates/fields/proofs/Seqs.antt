@@ -161,25 +161,6 @@ pub ran-spent : {A : Type 0} {src : Source} {val : A → ℕ} (k : Kind) (r : Ra
 unfolding run
 ran-spent k r next c ws bs e = record { told = rw e }
 
--- a field that was taken alone passed its test
-pub one-tested : (src : Source) (k : Kind) (r : Range) (σ : State) (v : ℕ) (τ : State)
-    → run src (ask k r done) σ ≡ ok v τ → test r v ≡ none
-unfolding run
-one-tested src k r σ v τ = go (look src k r (σ .cursor))
-  where
-    under : (u : ℕ) (o : Option ℕ) → test r u ≡ o
-        → tested o (ok u (passed (bits k) u σ)) (λ m. no m σ) ≡ ok v τ → test r v ≡ none
-    under u none e p = subst (λ x. test r x ≡ none) (same p) e
-      where
-        same : _≡_ {A = Result ℕ} (ok u (passed (bits k) u σ)) (ok v τ) → u ≡ v
-        same q = cc
-    under u (some m) e p = let z : _≡_ {A = ℕ} 0 1 = cc in absurd (omega arith)
-
-    go : (x : Field)
-        → onField x (λ u. tested (test r u) (ok u (passed (bits k) u σ)) (λ m. no m σ)) (λ m. no m σ) ≡ ok v τ → test r v ≡ none
-    go (Bad m) p = let z : _≡_ {A = ℕ} 0 1 = cc in absurd (omega arith)
-    go (Got u) p = under u (test r u) refl p
-
 -- ---- a walk by its result
 
 module _ {A : Type 0} {src : Source} {p : Grammar A} {c d : Cursor} {ws bs ws₁ bs₁ : List ℕ} {val : A → ℕ} where

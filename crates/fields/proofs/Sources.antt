@@ -58,7 +58,7 @@ module _ (s l : List ℕ) (w : ℕ) (c : Cursor) where
 
 -- ---- a field that was got lies within reach
 
-both-true : (a b : Bool) → a && b ≡ true → (a ≡ true) × (b ≡ true)
+pub both-true : (a b : Bool) → a && b ≡ true → (a ≡ true) × (b ≡ true)
 both-true true b p = (refl, p)
 both-true false b p = (p, cc)
 

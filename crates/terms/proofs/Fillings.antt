@@ -1,6 +1,6 @@
 -- The cases of the grammar of fillings, as the code meets them.
 use Prim.Native.Nat.{ℕ, _+_, _<_}
-use mathlib.Core.Path.{_≡_, refl, subst}
+use mathlib.Core.Path.{_≡_, refl}
 use mathlib.Core.List.{List, [], _∷_}
 use Rattle.fields.specs.declared.Cursor.{Cursor}
 use Rattle.fields.specs.declared.Walk.{Walk}
@@ -9,10 +9,9 @@ use Rattle.fields.specs.Source.{Source}
 use Rattle.fields.specs.Kinds.{from-to}
 use Rattle.fields.specs.Kinds.{Kind as kind}
 use Rattle.fields.specs.Grammar.{field}
-use Rattle.fields.specs.Run.{state, Ran}
+use Rattle.fields.specs.Run.{Ran}
 use Rattle.fields.proofs.Many.{Rounds}
-use Rattle.fields.proofs.Seqs.{found}
-use Rattle.fields.proofs.Always.{Always, always-bind, always-then, always-run, field-below}
+use Rattle.fields.proofs.Always.{Always, always-bind, always-then, always-handed, field-below}
 use Rattle.grammar.specs.Terms.{a-pair, pairs-of, any-term}
 use Rattle.terms.specs.Values.{firstOf}
 
@@ -24,10 +23,7 @@ pairs-rounds ar = record { none = λ least. refl; more = λ n least. refl }
 pub pair-small : {src : Source} (ar : ℕ → ℕ) (least : ℕ) {c d : Cursor} {ws bs ws₁ bs₁ : List ℕ} {r : Walk} {x : ℕ}
     → Ran src (a-pair ar least) c ws bs firstOf r ws₁ bs₁ → r ≡ On x d → x < 64
 unfolding a-pair Always
-pair-small {src} ar least {c} {d} {ws} {bs} {ws₁} {bs₁} h e =
-    let y = found h e in
-    subst (λ k. k < 64) (y .1)
-    (always-run (λ p. p .0 < 64) src (a-pair ar least)
+pair-small ar least h e =
+    always-handed h e (λ k. k < 64)
     (always-bind (λ v. v < 64) (λ p. p .0 < 64) _ (field kind.filled-variable (from-to least 64)) (field-below kind.filled-variable least 64)
     (λ v k. always-then (λ p. p .0 < 64) _ (any-term ar) (λ g. k)))
-    (state c ws bs) (y .0) (state d ws₁ bs₁) (y .2))

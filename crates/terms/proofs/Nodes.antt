@@ -1,6 +1,6 @@
 -- The cases of the grammar of terms, as the code meets them, and that the allowance falls.
 use Prim.Native.Nat.{ℕ, zero, suc, _-_, _≤_}
-use mathlib.Core.Path.{_≡_, refl, subst}
+use mathlib.Core.Path.{_≡_, refl}
 use mathlib.Core.List.{List}
 use mathlib.Core.Bool.{Bool, true, false, cond}
 use mathlib.Core.Option.{Option·some-ne-none}
@@ -16,10 +16,10 @@ use Rattle.patterns.specs.Term.{nil, cons}
 use Rattle.fields.specs.Kinds.{any, node}
 use Rattle.fields.specs.Kinds.{Kind as kind}
 use Rattle.fields.specs.Grammar.{Grammar, bind, field}
-use Rattle.fields.specs.Run.{state, Ran}
+use Rattle.fields.specs.Run.{Ran}
 use Rattle.fields.proofs.Many.{Rounds}
-use Rattle.fields.proofs.Seqs.{found, ran-spent}
-use Rattle.fields.proofs.Always.{Always, always-bind, always-then, always-run, always-weaken}
+use Rattle.fields.proofs.Seqs.{ran-spent}
+use Rattle.fields.proofs.Always.{Always, always-bind, always-then, always-handed, always-weaken}
 use Rattle.grammar.specs.Terms.{Grown, GrownAll, a-symbol, a-raise, a-variable, an-applied, a-raised, a-node, a-term, args-of}
 use Rattle.terms.specs.Values.{leftOf}
 
@@ -110,8 +110,4 @@ term-falls (suc deep) ar end least above left =
 
 pub term-left : {src : Source} (deep : ℕ) (ar : ℕ → ℕ) (end least above left : ℕ) {c d : Cursor} {ws bs ws₁ bs₁ : List ℕ}
     {r : Walk} {k : ℕ} → Ran src (a-term deep ar end least above left) c ws bs leftOf r ws₁ bs₁ → r ≡ On k d → k ≤ left
-term-left {src} deep ar end least above left {c} {d} {ws} {bs} {ws₁} {bs₁} h e =
-    let x = found h e in
-    subst (λ n. n ≤ left) (x .1)
-    (always-run (Below left) src (a-term deep ar end least above left) (term-falls deep ar end least above left) (state c ws bs)
-    (x .0) (state d ws₁ bs₁) (x .2))
+term-left deep ar end least above left h e = always-handed h e (λ n. n ≤ left) (term-falls deep ar end least above left)

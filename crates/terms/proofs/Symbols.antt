@@ -1,6 +1,6 @@
 -- The tests of symbols, and the look-up of arities.
 use Prim.Native.Nat.{ℕ, _+_, _*_, _<_, _≤_}
-use mathlib.Core.Path.{_≡_, refl, sym, ap, subst}
+use mathlib.Core.Path.{_≡_, refl, sym, ap}
 use mathlib.Core.List.{List}
 use mathlib.Core.Bool.{Bool}
 use mathlib.Core.Option.{none}
@@ -12,14 +12,14 @@ use Rattle.fields.specs.declared.Field.the-variants.{Got, Bad}
 use Rattle.fields.specs.declared.Walk.{Walk}
 use Rattle.fields.specs.declared.Walk.the-variants.{On, No}
 use Rattle.fields.specs.Source.{Source, fieldAt, onward}
-use Rattle.fields.specs.Run.{state, Ran}
-use Rattle.fields.proofs.Seqs.{found, one-tested}
+use Rattle.fields.specs.Run.{Ran}
 use Rattle.fields.specs.Grammar.{onField}
 use Rattle.terms.specs.Arity.{numberAt, arityAt}
 use Rattle.fields.specs.Kinds.{applied, unary, test, InRange}
 use Rattle.fields.specs.Kinds.{Kind as kind}
 use Rattle.fields.specs.Grammar.{field}
 use Rattle.fields.proofs.Ranges.{passes-exactly}
+use Rattle.fields.proofs.Always.{Always, always-handed}
 use Rattle.fields.proofs.Runs.{field-bad, field-refused, field-in}
 use Rattle.bits.specs.Put.{putField}
 use lib.ListN.{set}
@@ -86,8 +86,5 @@ symbol-small ar f e = passes-exactly (applied ar) f .0 e .1 .1
 
 pub symbol-few : {src : Source} (ar : ℕ → ℕ) {c d : Cursor} {ws bs ws₁ bs₁ : List ℕ} {r : Walk} {n : ℕ}
     → Ran src (a-symbol ar) c ws bs ar r ws₁ bs₁ → r ≡ On n d → n ≤ 8
-unfolding a-symbol field
-symbol-few {src} ar {c} {d} {ws} {bs} {ws₁} {bs₁} h e =
-    let x = found h e in
-    subst (λ k. k ≤ 8) (x .1)
-    (symbol-small ar (x .0) (one-tested src kind.symbol (applied ar) (state c ws bs) (x .0) (state d ws₁ bs₁) (x .2)))
+unfolding a-symbol field Always
+symbol-few ar h e = always-handed h e (λ k. k ≤ 8) (λ f t. symbol-small ar f t)

@@ -11,9 +11,6 @@ use Rattle.bits.proofs.has_room.Tie as tie
 returns : tie.Need-returns
 returns c = let a = c .before .before .args in sym (fits-wide (now (a .s)) (a .w) (a .at) (omega arith))
 
-room-requires : tie.Need-room-requires
-room-requires c κs = search needs
-
 returns-2 : tie.Need-returns-2
 returns-2 c = let a = c .before .before .before .before .args in sym (fits-past (now (a .s)) (a .w) (a .at) (omega arith))
 
@@ -24,4 +21,4 @@ returns-4 : tie.Need-returns-4
 returns-4 c = let a = c .before .before .before .before .before .args in sym (fits-yes (now (a .s)) (a .w) (a .at) (omega arith) (omega arith))
 
 pub has-room-spec : {M : Type 1} → statement M
-has-room-spec = tie.close (tie.spec returns room-requires returns-2 returns-3 returns-4)
+has-room-spec = tie.close (tie.spec returns (λ c κs. search needs) returns-2 returns-3 returns-4)

@@ -42,16 +42,10 @@ module _ (t : ℕ) where
   met : {M : Type 1} → lts.Closed claims here arities.Post M
   met = lts.spec claims here arities.Post
       returns
-      (λ c κs. search needs)
-      (λ c. search needs)
-      (λ c. search needs)
-      (λ c. search needs)
-      (λ c κs. search needs)
-      (λ c. search needs)
-      (λ c. search needs)
+      (λ c κs. search needs) (λ c. search needs) (λ c. search needs) (λ c. search needs)
+      (λ c κs. search needs) (λ c. search needs) (λ c. search needs)
       returns-2
-      (λ c. search needs)
-      (λ c. search needs)
+      (λ c. search needs) (λ c. search needs)
       returns-3
 
 pub +arities-spec : {M : Type 1} → statement M

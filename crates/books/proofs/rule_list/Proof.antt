@@ -10,55 +10,16 @@ use borrow.Author.Needs.{needs}
 use Rattle.books.proofs.rule_list.Statement.{statement}
 use Rattle.books.proofs.rule_list.Tie as tie
 
-take-requires : tie.Need-take-requires
-take-requires c κs = search needs
-
-enum-known-m : tie.Need-enum-known-m
-enum-known-m c = search needs
-
-enum-known-n : tie.Need-enum-known-n
-enum-known-n c = search needs
-
 rules-requires : tie.Need-rules-requires
 rules-requires c κs = let h = taken-below kind.rule-count 0 256 (c .before .before .before .before .before .before .before .before .before .before .take .ensures .ran _ _ (from-to-bounded kind.rule-count 0 256)) (c .before .before .before .before .n .given .1) in search needs
-
-enum-known-m-2 : tie.Need-enum-known-m-2
-enum-known-m-2 c = search needs
-
-enum-known-e : tie.Need-enum-known-e
-enum-known-e c = search needs
-
-same-length : tie.Need-same-length
-same-length c = search needs
-
-same-length-2 : tie.Need-same-length-2
-same-length-2 c = search needs
 
 returns : tie.Need-returns
 unfolding a-rule-list
 returns c = (seq-no (c .before .before .before .before .before .before .before .take .ensures .ran _ _ (any-bounded kind.rule-count (omega arith))) _ (c .before .m .given .1), list-no _ _ _ (c .before .before .before .before .before .before .before .take .ensures .ran _ _ (any-bounded kind.rule-count (omega arith))) (c .before .m .given .1))
 
-same-length-3 : tie.Need-same-length-3
-same-length-3 c = search needs
-
-same-length-4 : tie.Need-same-length-4
-same-length-4 c = search needs
-
-same-length-5 : tie.Need-same-length-5
-same-length-5 c = search needs
-
 returns-2 : tie.Need-returns-2
 unfolding a-rule-list
 returns-2 c = (seq-at _ (c .before .before .before .before .before .before .before .before .before .before .before .before .before .before .before .before .before .before .before .before .take .ensures .ran _ _ (any-bounded kind.rule-count (omega arith))) (c .before .before .before .before .before .before .before .before .before .before .before .before .before .before .n .given .1) (rules-refused _ _ (c .before .before .before .before .before .before .before .before .before .rules .ensures .0) (c .before .m2 .given .1)), list-on _ _ _ (c .before .before .before .before .before .before .before .before .before .before .before .before .before .before .before .before .before .before .before .before .take .ensures .ran _ _ (any-bounded kind.rule-count (omega arith))) (c .before .before .before .before .before .before .before .before .before .before .before .before .before .before .n .given .1) (c .before .before .before .before .before .before .before .before .before .rules .ensures .1))
-
-same-length-6 : tie.Need-same-length-6
-same-length-6 c = search needs
-
-same-length-7 : tie.Need-same-length-7
-same-length-7 c = search needs
-
-same-length-8 : tie.Need-same-length-8
-same-length-8 c = search needs
 
 returns-3 : tie.Need-returns-3
 unfolding a-rule-list
@@ -66,22 +27,12 @@ returns-3 c = (seq-at _ (c .before .before .before .before .before .before .befo
 
 pub rule-list-spec : {M : Type 1} → statement M
 rule-list-spec =
-    tie.close
-    (tie.spec
-    take-requires
-    enum-known-m
-    enum-known-n
+    tie.close (tie.spec
+    (λ c κs. search needs) (λ c. search needs) (λ c. search needs)
     rules-requires
-    enum-known-m-2
-    enum-known-e
-    same-length
-    same-length-2
+    (λ c. search needs) (λ c. search needs) (λ c. search needs) (λ c. search needs)
     returns
-    same-length-3
-    same-length-4
-    same-length-5
+    (λ c. search needs) (λ c. search needs) (λ c. search needs)
     returns-2
-    same-length-6
-    same-length-7
-    same-length-8
+    (λ c. search needs) (λ c. search needs) (λ c. search needs)
     returns-3)

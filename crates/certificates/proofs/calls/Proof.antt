@@ -6,9 +6,6 @@ use borrow.Author.Needs.{needs}
 use Rattle.certificates.proofs.calls.Statement.{statement}
 use Rattle.certificates.proofs.calls.Tie as tie
 
-shared-slice-read-result : tie.Need-shared-slice-read-result
-shared-slice-read-result c = search needs
-
 cast-result : tie.Need-cast-result
 cast-result c = let h = c .shared-slice-known .given (c .before .before .args .k) in search needs
 
@@ -19,4 +16,4 @@ returns-2 : tie.Need-returns-2
 returns-2 c = (sym (List·getD-eq-default (c .before .args .counts .now) 0 (c .if1 .left)), omega arith)
 
 pub calls-spec : {M : Type 1} → statement M
-calls-spec = tie.close (tie.spec shared-slice-read-result cast-result returns returns-2)
+calls-spec = tie.close (tie.spec (λ c. search needs) cast-result returns returns-2)

@@ -9,33 +9,12 @@ use borrow.Author.Needs.{needs}
 use Rattle.certificates.proofs.certificate.Statement.{statement}
 use Rattle.certificates.proofs.certificate.Tie as tie
 
-take-requires : tie.Need-take-requires
-take-requires c κs = search needs
-
-enum-known-m : tie.Need-enum-known-m
-enum-known-m c = search needs
-
-enum-known-n : tie.Need-enum-known-n
-enum-known-n c = search needs
-
 certificate-of-requires : tie.Need-certificate-of-requires
 certificate-of-requires c κs = let h = taken-below kind.line-count 0 256 (c .before .before .before .before .before .before .before .before .before .take .ensures .ran _ _ (from-to-bounded kind.line-count 0 256)) (c .before .before .before .n .given .1) in search needs
-
-same-length : tie.Need-same-length
-same-length c = search needs
-
-same-length-2 : tie.Need-same-length-2
-same-length-2 c = search needs
 
 returns : tie.Need-returns
 unfolding a-certificate
 returns c = seq-no (c .before .before .before .before .before .before .before .take .ensures .ran _ _ (any-bounded kind.line-count (omega arith))) _ (c .before .m .given .1)
-
-same-length-3 : tie.Need-same-length-3
-same-length-3 c = search needs
-
-same-length-4 : tie.Need-same-length-4
-same-length-4 c = search needs
 
 returns-2 : tie.Need-returns-2
 unfolding a-certificate
@@ -43,15 +22,10 @@ returns-2 c = seq-at _ (c .before .before .before .before .before .before .befor
 
 pub certificate-spec : {M : Type 1} → statement M
 certificate-spec =
-    tie.close
-    (tie.spec
-    take-requires
-    enum-known-m
-    enum-known-n
+    tie.close (tie.spec
+    (λ c κs. search needs) (λ c. search needs) (λ c. search needs)
     certificate-of-requires
-    same-length
-    same-length-2
+    (λ c. search needs) (λ c. search needs)
     returns
-    same-length-3
-    same-length-4
+    (λ c. search needs) (λ c. search needs)
     returns-2)

@@ -6,33 +6,9 @@ use borrow.Author.Needs.{needs}
 use Rattle.certificates.proofs.descent.Statement.{statement}
 use Rattle.certificates.proofs.descent.Tie as tie
 
-use-line-requires : tie.Need-use-line-requires
-use-line-requires c κs = search needs
-
-enum-known-m : tie.Need-enum-known-m
-enum-known-m c = search needs
-
-enum-known-d : tie.Need-enum-known-d
-enum-known-d c = search needs
-
-fall-requires : tie.Need-fall-requires
-fall-requires c κs = search needs
-
-same-length : tie.Need-same-length
-same-length c = search needs
-
-same-length-2 : tie.Need-same-length-2
-same-length-2 c = search needs
-
 returns : tie.Need-returns
 unfolding a-descent
 returns c = seq-no (c .before .before .before .before .before .before .before .use-line .ensures) _ (c .before .m .given .1)
-
-same-length-3 : tie.Need-same-length-3
-same-length-3 c = search needs
-
-same-length-4 : tie.Need-same-length-4
-same-length-4 c = search needs
 
 returns-2 : tie.Need-returns-2
 unfolding a-descent
@@ -40,15 +16,9 @@ returns-2 c = seq-on (c .before .before .before .before .before .before .before 
 
 pub descent-spec : {M : Type 1} → statement M
 descent-spec =
-    tie.close
-    (tie.spec
-    use-line-requires
-    enum-known-m
-    enum-known-d
-    fall-requires
-    same-length
-    same-length-2
+    tie.close (tie.spec
+    (λ c κs. search needs) (λ c. search needs) (λ c. search needs) (λ c κs. search needs) (λ c. search needs)
+    (λ c. search needs)
     returns
-    same-length-3
-    same-length-4
+    (λ c. search needs) (λ c. search needs)
     returns-2)

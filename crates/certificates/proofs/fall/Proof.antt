@@ -8,21 +8,6 @@ use borrow.Author.Needs.{needs}
 use Rattle.certificates.proofs.fall.Statement.{statement}
 use Rattle.certificates.proofs.fall.Tie as tie
 
-look-requires : tie.Need-look-requires
-look-requires c κs = search needs
-
-enum-known-m : tie.Need-enum-known-m
-enum-known-m c = search needs
-
-enum-known-k : tie.Need-enum-known-k
-enum-known-k c = search needs
-
-cast-calls : tie.Need-cast-calls
-cast-calls c = search needs
-
-calls-requires : tie.Need-calls-requires
-calls-requires c κs = search needs
-
 returns : tie.Need-returns
 unfolding a-fall
 returns c = seq-no (fall-not _ _ (c .before .before .before .before .before .look .ensures) _ (c .before .before .before .k .given .1) (c .before .calls .ensures .0) (c .if1 .taken)) _ refl
@@ -30,18 +15,9 @@ returns c = seq-no (fall-not _ _ (c .before .before .before .before .before .loo
 pass-requires : tie.Need-pass-requires
 pass-requires c κs = let h = got-near _ _ _ _ _ (sym (c .before .before .before .before .before .before .before .look .ensures) ∙ c .before .before .before .before .before .k .given .1) in (h .narrow, h .few, h .close)
 
-filling-requires : tie.Need-filling-requires
-filling-requires c κs = search needs
-
 returns-2 : tie.Need-returns-2
 unfolding a-fall
 returns-2 c = seq-no (fall-bad _ _ (c .before .before .before .look .ensures) _ (c .before .m .given .1)) _ refl
-
-same-length : tie.Need-same-length
-same-length c = search needs
-
-same-length-2 : tie.Need-same-length-2
-same-length-2 c = search needs
 
 returns-3 : tie.Need-returns-3
 unfolding a-fall
@@ -49,17 +25,11 @@ returns-3 c = seq-at _ (fall-one _ _ (c .before .before .before .before .before 
 
 pub fall-spec : {M : Type 1} → statement M
 fall-spec =
-    tie.close
-    (tie.spec
-    look-requires
-    enum-known-m
-    enum-known-k
-    cast-calls
-    calls-requires
+    tie.close (tie.spec
+    (λ c κs. search needs) (λ c. search needs) (λ c. search needs) (λ c. search needs) (λ c κs. search needs)
     returns
     pass-requires
-    filling-requires
+    (λ c κs. search needs)
     returns-2
-    same-length
-    same-length-2
+    (λ c. search needs) (λ c. search needs)
     returns-3)

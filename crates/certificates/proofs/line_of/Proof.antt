@@ -6,33 +6,9 @@ use borrow.Author.Needs.{needs}
 use Rattle.certificates.proofs.line_of.Statement.{statement}
 use Rattle.certificates.proofs.line_of.Tie as tie
 
-claim-requires : tie.Need-claim-requires
-claim-requires c κs = search needs
-
-enum-known-m : tie.Need-enum-known-m
-enum-known-m c = search needs
-
-enum-known-d : tie.Need-enum-known-d
-enum-known-d c = search needs
-
-kind-requires : tie.Need-kind-requires
-kind-requires c κs = search needs
-
-same-length : tie.Need-same-length
-same-length c = search needs
-
-same-length-2 : tie.Need-same-length-2
-same-length-2 c = search needs
-
 returns : tie.Need-returns
 unfolding a-line-of
 returns c = seq-no (c .before .before .before .before .before .before .before .claim .ensures) _ (c .before .m .given .1)
-
-same-length-3 : tie.Need-same-length-3
-same-length-3 c = search needs
-
-same-length-4 : tie.Need-same-length-4
-same-length-4 c = search needs
 
 returns-2 : tie.Need-returns-2
 unfolding a-line-of
@@ -40,15 +16,9 @@ returns-2 c = seq-on (c .before .before .before .before .before .before .before 
 
 pub line-of-spec : {M : Type 1} → statement M
 line-of-spec =
-    tie.close
-    (tie.spec
-    claim-requires
-    enum-known-m
-    enum-known-d
-    kind-requires
-    same-length
-    same-length-2
+    tie.close (tie.spec
+    (λ c κs. search needs) (λ c. search needs) (λ c. search needs) (λ c κs. search needs) (λ c. search needs)
+    (λ c. search needs)
     returns
-    same-length-3
-    same-length-4
+    (λ c. search needs) (λ c. search needs)
     returns-2)

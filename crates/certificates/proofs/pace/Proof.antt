@@ -10,39 +10,15 @@ use borrow.Author.Needs.{needs}
 use Rattle.certificates.proofs.pace.Statement.{statement}
 use Rattle.certificates.proofs.pace.Tie as tie
 
-take-requires : tie.Need-take-requires
-take-requires c κs = search needs
-
-enum-known-m : tie.Need-enum-known-m
-enum-known-m c = search needs
-
-enum-known-k : tie.Need-enum-known-k
-enum-known-k c = search needs
-
 cast-take : tie.Need-cast-take
 cast-take c = let h = taken-below kind.step-k 0 4096 (c .before .before .before .before .before .before .before .take .ensures .ran _ _ (from-to-bounded kind.step-k 0 4096)) (c .before .k .given .1) in search needs
 
 sub-take : tie.Need-sub-take
 sub-take c = let h = taken-below kind.step-k 0 4096 (c .before .before .before .before .before .before .before .take .ensures .ran _ _ (from-to-bounded kind.step-k 0 4096)) (c .before .k .given .1) in search needs
 
-take-requires-2 : tie.Need-take-requires-2
-take-requires-2 c κs = search needs
-
-same-length : tie.Need-same-length
-same-length c = search needs
-
-same-length-2 : tie.Need-same-length-2
-same-length-2 c = search needs
-
 returns : tie.Need-returns
 unfolding a-pace
 returns c = seq-no (c .before .before .before .before .before .before .before .take .ensures .ran _ _ (any-bounded kind.step-k (omega arith))) _ (c .before .m .given .1)
-
-same-length-3 : tie.Need-same-length-3
-same-length-3 c = search needs
-
-same-length-4 : tie.Need-same-length-4
-same-length-4 c = search needs
 
 returns-2 : tie.Need-returns-2
 unfolding a-pace
@@ -50,17 +26,11 @@ returns-2 c = seq-at _ (c .before .before .before .before .before .before .befor
 
 pub pace-spec : {M : Type 1} → statement M
 pace-spec =
-    tie.close
-    (tie.spec
-    take-requires
-    enum-known-m
-    enum-known-k
+    tie.close (tie.spec
+    (λ c κs. search needs) (λ c. search needs) (λ c. search needs)
     cast-take
     sub-take
-    take-requires-2
-    same-length
-    same-length-2
+    (λ c κs. search needs) (λ c. search needs) (λ c. search needs)
     returns
-    same-length-3
-    same-length-4
+    (λ c. search needs) (λ c. search needs)
     returns-2)

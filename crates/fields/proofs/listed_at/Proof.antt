@@ -7,18 +7,6 @@ use borrow.Author.Needs.{needs}
 use Rattle.fields.proofs.listed_at.Statement.{statement}
 use Rattle.fields.proofs.listed_at.Tie as tie
 
-mul-v : tie.Need-mul-v
-mul-v c = search needs
-
-shared-slice-read-v : tie.Need-shared-slice-read-v
-shared-slice-read-v c = search needs
-
-wide-requires : tie.Need-wide-requires
-wide-requires c κs = search needs
-
-shl-if2 : tie.Need-shl-if2
-shl-if2 c = search needs
-
 returns : tie.Need-returns
 returns c = sym (listed-got _ _ _ (c .before .before .before .if1 .taken) (omega (arith, one-shifted (c .before .before .before .before .before .args .w) (omega arith))))
 
@@ -30,5 +18,8 @@ returns-3 c = sym (listed-past _ _ _ (c .if1 .left))
 
 pub listed-at-spec : {M : Type 1} → statement M
 listed-at-spec =
-    tie.close
-    (tie.spec mul-v shared-slice-read-v wide-requires shl-if2 returns returns-2 returns-3)
+    tie.close (tie.spec
+    (λ c. search needs) (λ c. search needs) (λ c κs. search needs) (λ c. search needs)
+    returns
+    returns-2
+    returns-3)

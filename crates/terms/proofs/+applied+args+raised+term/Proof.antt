@@ -100,15 +100,11 @@ module _ (t : ℕ) where
 
   applied-met : {M : Type 1} → applied-lts.Closed applied-claims applied-here applied.Post M
   applied-met = applied-lts.spec applied-claims applied-here applied.Post
-      (λ c κs. search needs)
-      (λ c. search needs)
-      (λ c. search needs)
+      (λ c κs. search needs) (λ c. search needs) (λ c. search needs)
       applied-args-requires
-      (λ c. search needs)
-      (λ c. search needs)
+      (λ c. search needs) (λ c. search needs)
       applied-returns
-      (λ c. search needs)
-      (λ c. search needs)
+      (λ c. search needs) (λ c. search needs)
       applied-returns-2
 
   abbrev args-claims : args-lts.Claims
@@ -129,17 +125,11 @@ module _ (t : ℕ) where
   args-met : {M : Type 1} → args-lts.Closed args-claims args-here args.Post M
   args-met = args-lts.spec args-claims args-here args.Post args-Inv-loop args-μ-loop
       args-loop-holds
-      (λ c κs. search needs)
-      (λ c. search needs)
-      (λ c. search needs)
-      (λ c. search needs)
+      (λ c κs. search needs) (λ c. search needs) (λ c. search needs) (λ c. search needs)
       args-returns
-      (λ c. search needs)
-      (λ c. search needs)
-      (λ c. search needs)
+      (λ c. search needs) (λ c. search needs) (λ c. search needs)
       args-loop-again
-      (λ c. search needs)
-      (λ c. search needs)
+      (λ c. search needs) (λ c. search needs)
       args-returns-2
 
   abbrev raised-claims : raised-lts.Claims
@@ -155,15 +145,10 @@ module _ (t : ℕ) where
 
   raised-met : {M : Type 1} → raised-lts.Closed raised-claims raised-here raised.Post M
   raised-met = raised-lts.spec raised-claims raised-here raised.Post
-      (λ c κs. search needs)
-      (λ c. search needs)
-      (λ c. search needs)
-      (λ c κs. search needs)
-      (λ c. search needs)
-      (λ c. search needs)
+      (λ c κs. search needs) (λ c. search needs) (λ c. search needs) (λ c κs. search needs)
+      (λ c. search needs) (λ c. search needs)
       raised-returns
-      (λ c. search needs)
-      (λ c. search needs)
+      (λ c. search needs) (λ c. search needs)
       raised-returns-2
 
   abbrev term-claims : term-lts.Claims
@@ -187,26 +172,15 @@ module _ (t : ℕ) where
   term-met : {M : Type 1} → term-lts.Closed term-claims term-here term.Post M
   term-met = term-lts.spec term-claims term-here term.Post
       term-returns
-      (λ c κs. search needs)
-      (λ c. search needs)
-      (λ c. search needs)
-      (λ c. search needs)
-      (λ c κs. search needs)
-      (λ c. search needs)
-      (λ c κs. search needs)
-      (λ c. search needs)
-      (λ c κs. search needs)
-      (λ c. search needs)
-      (λ c. search needs)
+      (λ c κs. search needs) (λ c. search needs) (λ c. search needs) (λ c. search needs)
+      (λ c κs. search needs) (λ c. search needs) (λ c κs. search needs) (λ c. search needs)
+      (λ c κs. search needs) (λ c. search needs) (λ c. search needs)
       term-returns-2
-      (λ c. search needs)
-      (λ c. search needs)
+      (λ c. search needs) (λ c. search needs)
       term-returns-3
-      (λ c. search needs)
-      (λ c. search needs)
+      (λ c. search needs) (λ c. search needs)
       term-returns-4
-      (λ c. search needs)
-      (λ c. search needs)
+      (λ c. search needs) (λ c. search needs)
       term-returns-5
 
 pub +applied+args+raised+term-spec : {M : Type 1} → statement M

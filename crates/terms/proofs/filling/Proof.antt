@@ -7,33 +7,9 @@ use borrow.Author.Needs.{needs}
 use Rattle.terms.proofs.filling.Statement.{statement}
 use Rattle.terms.proofs.filling.Tie as tie
 
-take-requires : tie.Need-take-requires
-take-requires c κs = search needs
-
-enum-known-m : tie.Need-enum-known-m
-enum-known-m c = search needs
-
-enum-known-n : tie.Need-enum-known-n
-enum-known-n c = search needs
-
-pairs-requires : tie.Need-pairs-requires
-pairs-requires c κs = search needs
-
-same-length : tie.Need-same-length
-same-length c = search needs
-
-same-length-2 : tie.Need-same-length-2
-same-length-2 c = search needs
-
 returns : tie.Need-returns
 unfolding a-filling
 returns c = seq-no (c .before .before .before .before .before .before .before .take .ensures .ran _ _ (from-to-bounded kind.filling-count _ _)) _ (c .before .m .given .1)
-
-same-length-3 : tie.Need-same-length-3
-same-length-3 c = search needs
-
-same-length-4 : tie.Need-same-length-4
-same-length-4 c = search needs
 
 returns-2 : tie.Need-returns-2
 unfolding a-filling
@@ -41,15 +17,9 @@ returns-2 c = seq-at _ (c .before .before .before .before .before .before .befor
 
 pub filling-spec : {M : Type 1} → statement M
 filling-spec =
-    tie.close
-    (tie.spec
-    take-requires
-    enum-known-m
-    enum-known-n
-    pairs-requires
-    same-length
-    same-length-2
+    tie.close (tie.spec
+    (λ c κs. search needs) (λ c. search needs) (λ c. search needs) (λ c κs. search needs) (λ c. search needs)
+    (λ c. search needs)
     returns
-    same-length-3
-    same-length-4
+    (λ c. search needs) (λ c. search needs)
     returns-2)

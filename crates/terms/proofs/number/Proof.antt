@@ -5,15 +5,6 @@ use borrow.Author.Needs.{needs}
 use Rattle.terms.proofs.number.Statement.{statement}
 use Rattle.terms.proofs.number.Tie as tie
 
-look-requires : tie.Need-look-requires
-look-requires c κs = search needs
-
-enum-known-v : tie.Need-enum-known-v
-enum-known-v c = search needs
-
-enum-told : tie.Need-enum-told
-enum-told c = search needs
-
 returns : tie.Need-returns
 returns c = sym (number-is _ _ _ _ _ (sym (c .before .v .given .1) ∙ c .before .before .before .look .ensures))
 
@@ -21,4 +12,8 @@ returns-2 : tie.Need-returns-2
 returns-2 c = sym (number-is _ _ _ _ _ (sym (c .enum-told .given .1) ∙ c .before .before .look .ensures))
 
 pub number-spec : {M : Type 1} → statement M
-number-spec = tie.close (tie.spec look-requires enum-known-v enum-told returns returns-2)
+number-spec =
+    tie.close (tie.spec
+    (λ c κs. search needs) (λ c. search needs) (λ c. search needs)
+    returns
+    returns-2)

@@ -25,23 +25,8 @@ abbrev μ-loop : tie.MeasureT-loop
 loop-holds : tie.Need-loop-holds Inv-loop μ-loop
 loop-holds c = (refl, refl, leads-here)
 
-pair-requires : tie.Need-pair-requires Inv-loop μ-loop
-pair-requires c κs = search needs
-
-enum-known-m : tie.Need-enum-known-m Inv-loop μ-loop
-enum-known-m c = search needs
-
-same-length : tie.Need-same-length Inv-loop μ-loop
-same-length c = search needs
-
-same-length-2 : tie.Need-same-length-2 Inv-loop μ-loop
-same-length-2 c = search needs
-
 returns : tie.Need-returns Inv-loop μ-loop
 returns c = rounds-no (pairs-rounds _) _ _ (c .before .before .before .before .before .before .before .before .before .before .before .loop .inv .2) (c .before .before .before .before .before .before .before .before .before .before .loop-test .taken) (c .before .before .before .before .before .before .before .pair .ensures) (c .before .m .given .1)
-
-enum-known-x : tie.Need-enum-known-x Inv-loop μ-loop
-enum-known-x c = search needs
 
 cast-next : tie.Need-cast-next Inv-loop μ-loop
 cast-next c = let h = pair-small _ _ (c .before .before .before .before .before .before .before .pair .ensures) (c .before .x .given .1) in search needs
@@ -49,42 +34,22 @@ cast-next c = let h = pair-small _ _ (c .before .before .before .before .before 
 add-next : tie.Need-add-next Inv-loop μ-loop
 add-next c = let h = pair-small _ _ (c .before .before .before .before .before .before .before .pair .ensures) (c .before .x .given .1) in search needs
 
-sub-more : tie.Need-sub-more Inv-loop μ-loop
-sub-more c = search needs
-
-loop-less : tie.Need-loop-less Inv-loop μ-loop
-loop-less c = search needs
-
 loop-again : tie.Need-loop-again Inv-loop μ-loop
 loop-again c = (search needs, search needs, rounds-on (pairs-rounds _) _ _ (c .before .before .before .before .before .before .before .before .before .before .before .loop .inv .2) (c .before .before .before .before .before .before .before .before .before .before .loop-test .taken) (c .before .before .before .before .before .before .before .pair .ensures) _ (c .before .x .given .1) (λ p e. ap (λ x. x + 1) e) (λ p ps. refl))
-
-same-length-3 : tie.Need-same-length-3 Inv-loop μ-loop
-same-length-3 c = search needs
-
-same-length-4 : tie.Need-same-length-4 Inv-loop μ-loop
-same-length-4 c = search needs
 
 returns-2 : tie.Need-returns-2 Inv-loop μ-loop
 returns-2 c = rounds-end (pairs-rounds _) _ _ (c .before .loop .inv .2) (c .loop-test .left)
 
 pub pairs-spec : {M : Type 1} → statement M
 pairs-spec =
-    tie.close
-    (tie.spec
-    Inv-loop
-    μ-loop
+    tie.close (tie.spec Inv-loop μ-loop
     loop-holds
-    pair-requires
-    enum-known-m
-    same-length
-    same-length-2
+    (λ c κs. search needs) (λ c. search needs) (λ c. search needs) (λ c. search needs)
     returns
-    enum-known-x
+    (λ c. search needs)
     cast-next
     add-next
-    sub-more
-    loop-less
+    (λ c. search needs) (λ c. search needs)
     loop-again
-    same-length-3
-    same-length-4
+    (λ c. search needs) (λ c. search needs)
     returns-2)

@@ -40,16 +40,10 @@ module _ (t : ℕ) where
   met : {M : Type 1} → lts.Closed claims here uses.Post M
   met = lts.spec claims here uses.Post
       returns
-      (λ c κs. search needs)
-      (λ c. search needs)
-      (λ c. search needs)
-      (λ c. search needs)
-      (λ c κs. search needs)
-      (λ c. search needs)
-      (λ c. search needs)
+      (λ c κs. search needs) (λ c. search needs) (λ c. search needs) (λ c. search needs)
+      (λ c κs. search needs) (λ c. search needs) (λ c. search needs)
       returns-2
-      (λ c. search needs)
-      (λ c. search needs)
+      (λ c. search needs) (λ c. search needs)
       returns-3
 
 pub +uses-spec : {M : Type 1} → statement M

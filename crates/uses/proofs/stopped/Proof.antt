@@ -6,33 +6,9 @@ use borrow.Author.Needs.{needs}
 use Rattle.uses.proofs.stopped.Statement.{statement}
 use Rattle.uses.proofs.stopped.Tie as tie
 
-filling-requires : tie.Need-filling-requires
-filling-requires c κs = search needs
-
-enum-known-m : tie.Need-enum-known-m
-enum-known-m c = search needs
-
-enum-known-d : tie.Need-enum-known-d
-enum-known-d c = search needs
-
-stop-requires : tie.Need-stop-requires
-stop-requires c κs = search needs
-
-same-length : tie.Need-same-length
-same-length c = search needs
-
-same-length-2 : tie.Need-same-length-2
-same-length-2 c = search needs
-
 returns : tie.Need-returns
 unfolding a-stopped
 returns c = seq-no (c .before .before .before .before .before .before .before .filling .ensures) _ (c .before .m .given .1)
-
-same-length-3 : tie.Need-same-length-3
-same-length-3 c = search needs
-
-same-length-4 : tie.Need-same-length-4
-same-length-4 c = search needs
 
 returns-2 : tie.Need-returns-2
 unfolding a-stopped
@@ -40,15 +16,9 @@ returns-2 c = seq-on (c .before .before .before .before .before .before .before 
 
 pub stopped-spec : {M : Type 1} → statement M
 stopped-spec =
-    tie.close
-    (tie.spec
-    filling-requires
-    enum-known-m
-    enum-known-d
-    stop-requires
-    same-length
-    same-length-2
+    tie.close (tie.spec
+    (λ c κs. search needs) (λ c. search needs) (λ c. search needs) (λ c κs. search needs) (λ c. search needs)
+    (λ c. search needs)
     returns
-    same-length-3
-    same-length-4
+    (λ c. search needs) (λ c. search needs)
     returns-2)

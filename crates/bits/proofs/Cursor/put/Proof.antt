@@ -29,9 +29,6 @@ fitting c = sym (c .before .has-room .ensures) ∙ c .if1 .taken
 fitting-both : (c : Passed) → (c .before .before .before .before .args .w ≤ 16) × (c .before .before .before .before .args .self .at + c .before .before .before .before .args .w ≤ roomOf (now (c .before .before .before .before .args .out)))
 fitting-both c = fits-both (now (c .before .before .before .before .args .out)) (c .before .before .before .before .args .w) (c .before .before .before .before .args .self .at) (fitting c)
 
-has-room-requires : tie.Need-has-room-requires
-has-room-requires c κs = search needs
-
 window-requires : tie.Need-window-requires
 window-requires c κs = omega (arith, fitting-both (c .before))
 
@@ -43,9 +40,6 @@ store-window-requires c κs = omega (arith, fitting-both (c .before .before .bef
 
 add-t15 : tie.Need-add-t15
 add-t15 c = omega (arith, fitting-both (c .before .before .before .before .before .before .before))
-
-same-length : tie.Need-same-length
-same-length c = search needs
 
 returns : tie.Need-returns
 unfolding placeAfter
@@ -61,9 +55,6 @@ returns c =
           (stored-is (now (a .out)) (a .w) (a .v) (a .self .at) (λ i. omega (arith, d .before .before .before .slice-known .given i)) (fitting d)),
     )
 
-same-length-2 : tie.Need-same-length-2
-same-length-2 c = search needs
-
 returns-2 : tie.Need-returns-2
 unfolding placeAfter putField
 returns-2 c =
@@ -72,14 +63,13 @@ returns-2 c =
 
 pub put-spec : {M : Type 1} → statement M
 put-spec =
-    tie.close
-    (tie.spec
-    has-room-requires
+    tie.close (tie.spec
+    (λ c κs. search needs)
     window-requires
     weave-requires
     store-window-requires
     add-t15
-    same-length
+    (λ c. search needs)
     returns
-    same-length-2
+    (λ c. search needs)
     returns-2)

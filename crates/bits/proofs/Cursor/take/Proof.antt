@@ -27,20 +27,11 @@ fitting c = sym (c .before .has-room .ensures) ∙ c .if1 .taken
 fitting-both : (c : Passed) → (c .before .before .before .args .w ≤ 16) × (c .before .before .before .args .self .at + c .before .before .before .args .w ≤ roomOf (now (c .before .before .before .args .s)))
 fitting-both c = fits-both (now (c .before .before .before .args .s)) (c .before .before .before .args .w) (c .before .before .before .args .self .at) (fitting c)
 
-has-room-requires : tie.Need-has-room-requires
-has-room-requires c κs = search needs
-
 window-requires : tie.Need-window-requires
 window-requires c κs = omega (arith, fitting-both c)
 
-sub-v : tie.Need-sub-v
-sub-v c = search needs
-
 sub-v-2 : tie.Need-sub-v-2
 sub-v-2 c = omega (arith, fitting-both (c .before))
-
-shr-v : tie.Need-shr-v
-shr-v c = search needs
 
 shl-v : tie.Need-shl-v
 shl-v c = omega (arith, fitting-both (c .before))
@@ -69,13 +60,12 @@ returns-2 c = let e = sym (c .before .has-room .ensures) ∙ c .if1 .left in sim
 
 pub take-spec : {M : Type 1} → statement M
 take-spec =
-    tie.close
-    (tie.spec
-    has-room-requires
+    tie.close (tie.spec
+    (λ c κs. search needs)
     window-requires
-    sub-v
+    (λ c. search needs)
     sub-v-2
-    shr-v
+    (λ c. search needs)
     shl-v
     rem-v
     cast-t16

@@ -16,20 +16,8 @@ returns-2 c = sym (field-many _ _ _ _ (omega arith) (omega arith))
 returns-3 : tie.Need-returns-3
 returns-3 c = sym (field-far _ _ _ _ (omega arith) (omega arith) (omega arith))
 
-listed-at-requires : tie.Need-listed-at-requires
-listed-at-requires c κs = search needs
-
 returns-4 : tie.Need-returns-4
 returns-4 c = c .listed-at .ensures ∙ sym (field-listed _ _ _ _ (omega arith) (omega arith) (omega arith) (c .before .if4 .taken))
-
-take-requires : tie.Need-take-requires
-take-requires c κs = search needs
-
-enum-told : tie.Need-enum-told
-enum-told c = search needs
-
-enum-known-v : tie.Need-enum-known-v
-enum-known-v c = search needs
 
 returns-5 : tie.Need-returns-5
 returns-5 c = ap ofBits (sym (c .enum-told .given .1)) ∙ sym (field-packed _ _ _ _ (omega arith) (omega arith) (omega arith) (c .before .before .before .if4 .left) _ (c .before .before .take .ensures))
@@ -39,15 +27,12 @@ returns-6 c = ap ofBits (sym (c .before .v .given .1)) ∙ sym (field-packed _ _
 
 pub look-spec : {M : Type 1} → statement M
 look-spec =
-    tie.close
-    (tie.spec
+    tie.close (tie.spec
     returns
     returns-2
     returns-3
-    listed-at-requires
+    (λ c κs. search needs)
     returns-4
-    take-requires
-    enum-told
-    enum-known-v
+    (λ c κs. search needs) (λ c. search needs) (λ c. search needs)
     returns-5
     returns-6)

@@ -6,15 +6,6 @@ use borrow.Author.Needs.{needs}
 use Rattle.fields.proofs.Cursor.take.Statement.{statement}
 use Rattle.fields.proofs.Cursor.take.Tie as tie
 
-look-requires : tie.Need-look-requires
-look-requires c κs = search needs
-
-enum-known-m : tie.Need-enum-known-m
-enum-known-m c = search needs
-
-enum-known-v : tie.Need-enum-known-v
-enum-known-v c = search needs
-
 returns : tie.Need-returns
 returns c = took-low _ _ (c .before .before .before .before .look .ensures) _ (c .before .before .v .given .1) (c .if1 .taken)
 
@@ -24,33 +15,20 @@ returns-2 c = took-high _ _ (c .before .before .before .before .before .look .en
 pass-requires : tie.Need-pass-requires
 pass-requires c κs = let h = got-near _ _ _ _ _ (sym (c .before .before .before .before .before .before .before .look .ensures) ∙ c .before .before .before .before .before .v .given .1) in (h .narrow, h .few, h .close)
 
-cast-t20 : tie.Need-cast-t20
-cast-t20 c = search needs
-
 returns-3 : tie.Need-returns-3
 returns-3 c = took-bad _ _ (c .before .before .before .look .ensures) _ (c .before .m .given .1)
-
-same-length : tie.Need-same-length
-same-length c = search needs
-
-same-length-2 : tie.Need-same-length-2
-same-length-2 c = search needs
 
 returns-4 : tie.Need-returns-4
 returns-4 c = took-in _ _ (c .before .before .before .before .before .before .before .before .before .before .before .before .look .ensures) _ (c .before .before .before .before .before .before .before .before .before .before .v .given .1) (c .before .before .before .before .before .before .before .before .if1 .left) (c .before .before .before .before .before .before .before .if2 .left) (c .before .before .before .before .pass .ensures .0) (c .before .before .before .before .pass .ensures .1 .0) (c .before .before .before .before .pass .ensures .1 .1)
 
 pub take-spec : {M : Type 1} → statement M
 take-spec =
-    tie.close
-    (tie.spec
-    look-requires
-    enum-known-m
-    enum-known-v
+    tie.close (tie.spec
+    (λ c κs. search needs) (λ c. search needs) (λ c. search needs)
     returns
     returns-2
     pass-requires
-    cast-t20
+    (λ c. search needs)
     returns-3
-    same-length
-    same-length-2
+    (λ c. search needs) (λ c. search needs)
     returns-4)

@@ -6,18 +6,6 @@ use borrow.Author.Needs.{needs}
 use Rattle.terms.proofs.heads.symbol.Statement.{statement}
 use Rattle.terms.proofs.heads.symbol.Tie as tie
 
-look-requires : tie.Need-look-requires
-look-requires c κs = search needs
-
-enum-known-m : tie.Need-enum-known-m
-enum-known-m c = search needs
-
-enum-known-f : tie.Need-enum-known-f
-enum-known-f c = search needs
-
-arity-requires : tie.Need-arity-requires
-arity-requires c κs = search needs
-
 returns : tie.Need-returns
 returns c = symbol-unary _ _ (c .before .before .before .before .before .look .ensures) _ (c .before .before .before .f .given .1) (c .before .arity .ensures) (c .if1 .taken)
 
@@ -27,34 +15,20 @@ returns-2 c = symbol-missing _ _ (c .before .before .before .before .before .bef
 pass-requires : tie.Need-pass-requires
 pass-requires c κs = let h = got-near _ _ _ _ _ (sym (c .before .before .before .before .before .before .before .before .look .ensures) ∙ c .before .before .before .before .before .before .f .given .1) in (h .narrow, h .few, h .close)
 
-cast-t19 : tie.Need-cast-t19
-cast-t19 c = search needs
-
 returns-3 : tie.Need-returns-3
 returns-3 c = symbol-bad _ _ (c .before .before .before .look .ensures) _ (c .before .m .given .1)
-
-same-length : tie.Need-same-length
-same-length c = search needs
-
-same-length-2 : tie.Need-same-length-2
-same-length-2 c = search needs
 
 returns-4 : tie.Need-returns-4
 returns-4 c = symbol-in _ _ (c .before .before .before .before .before .before .before .before .before .before .before .before .before .look .ensures) _ (c .before .before .before .before .before .before .before .before .before .before .before .f .given .1) (c .before .before .before .before .before .before .before .before .before .arity .ensures) (c .before .before .before .before .before .before .before .before .if1 .left) (c .before .before .before .before .before .before .before .if2 .left) (c .before .before .before .before .pass .ensures .0) (c .before .before .before .before .pass .ensures .1 .0) (c .before .before .before .before .pass .ensures .1 .1)
 
 pub symbol-spec : {M : Type 1} → statement M
 symbol-spec =
-    tie.close
-    (tie.spec
-    look-requires
-    enum-known-m
-    enum-known-f
-    arity-requires
+    tie.close (tie.spec
+    (λ c κs. search needs) (λ c. search needs) (λ c. search needs) (λ c κs. search needs)
     returns
     returns-2
     pass-requires
-    cast-t19
+    (λ c. search needs)
     returns-3
-    same-length
-    same-length-2
+    (λ c. search needs) (λ c. search needs)
     returns-4)

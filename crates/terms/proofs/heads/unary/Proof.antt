@@ -6,23 +6,8 @@ use borrow.Author.Needs.{needs}
 use Rattle.terms.proofs.heads.unary.Statement.{statement}
 use Rattle.terms.proofs.heads.unary.Tie as tie
 
-look-requires : tie.Need-look-requires
-look-requires c κs = search needs
-
-enum-known-m : tie.Need-enum-known-m
-enum-known-m c = search needs
-
-enum-known-f : tie.Need-enum-known-f
-enum-known-f c = search needs
-
-arity-requires : tie.Need-arity-requires
-arity-requires c κs = search needs
-
 returns : tie.Need-returns
 returns c = unary-not _ _ (c .before .before .before .before .before .look .ensures) _ (c .before .before .before .f .given .1) (c .before .arity .ensures) _ (c .if1 .taken)
-
-cast-k : tie.Need-cast-k
-cast-k c = search needs
 
 returns-2 : tie.Need-returns-2
 returns-2 c = unary-like _ _ (c .before .before .before .before .before .before .look .ensures) _ (c .before .before .before .before .f .given .1) (c .before .before .arity .ensures) _ (c .before .if1 .left) (c .if2 .taken)
@@ -33,28 +18,17 @@ pass-requires c κs = let h = got-near _ _ _ _ _ (sym (c .before .before .before
 returns-3 : tie.Need-returns-3
 returns-3 c = unary-bad _ _ (c .before .before .before .look .ensures) _ _ (c .before .m .given .1)
 
-same-length : tie.Need-same-length
-same-length c = search needs
-
-same-length-2 : tie.Need-same-length-2
-same-length-2 c = search needs
-
 returns-4 : tie.Need-returns-4
 returns-4 c = unary-in _ _ (c .before .before .before .before .before .before .before .before .before .before .before .before .before .look .ensures) _ (c .before .before .before .before .before .before .before .before .before .before .before .f .given .1) (c .before .before .before .before .before .before .before .before .before .arity .ensures) _ (c .before .before .before .before .before .before .before .before .if1 .left) (c .before .before .before .before .before .before .before .if2 .left) (c .before .before .before .before .pass .ensures .0) (c .before .before .before .before .pass .ensures .1 .0) (c .before .before .before .before .pass .ensures .1 .1)
 
 pub unary-spec : {M : Type 1} → statement M
 unary-spec =
-    tie.close
-    (tie.spec
-    look-requires
-    enum-known-m
-    enum-known-f
-    arity-requires
+    tie.close (tie.spec
+    (λ c κs. search needs) (λ c. search needs) (λ c. search needs) (λ c κs. search needs)
     returns
-    cast-k
+    (λ c. search needs)
     returns-2
     pass-requires
     returns-3
-    same-length
-    same-length-2
+    (λ c. search needs) (λ c. search needs)
     returns-4)
