@@ -1,6 +1,6 @@
 -- The arities that the code looks up are those that the walk has read.
 use Prim.Native.Nat.{ℕ, zero, suc, _+_, _*_, _<_}
-use mathlib.Core.Path.{_≡_, sym, _∙_, ap, subst, fun-ext}
+use mathlib.Core.Path.{_≡_, refl, sym, _∙_, ap, subst, fun-ext}
 use mathlib.Core.List.{List, [], _∷_, flatMap}
 use mathlib.Core.Bool.{Bool}
 use native.Mathlib.Omega.{arith}
@@ -8,14 +8,13 @@ use native.Mathlib.Decide.{decLt}
 use lib.ListN.{length, getD, List·getD-eq-default}
 use Rattle.fields.specs.declared.Cursor.{Cursor}
 use Rattle.fields.specs.declared.Field.the-variants.{Got}
-use Rattle.fields.specs.Source.{Source, from, fieldAt, onward}
+use Rattle.fields.specs.Source.{Source, from, fieldAt, onward, start}
 use Rattle.fields.specs.Run.{State, state, run}
 use Rattle.fields.specs.Run.Result.{ok}
 use Rattle.fields.proofs.Ways.{way}
 use Rattle.fields.proofs.Gives.{Gives}
 use Rattle.fields.proofs.Found.{way-gives, trace-spells}
 use Rattle.fields.proofs.Outcomes.{outcome-of-ok}
-use Rattle.books.specs.Counts.{start}
 use Rattle.grammar.specs.Books.{arity-in, a-signature}
 use Rattle.grammar.specs.Listing.{arity-fields, signature-fields}
 use Rattle.grammar.proofs.BookFields.{signature-exactly}
@@ -66,10 +65,10 @@ module _ (s l : List ℕ) (listed : Bool) (ws bs ars : List ℕ) (τ : State) (r
     where
       go : Dec (f < length ars) → arityAt s l listed f ≡ getD ars f 16
       go (yes h) =
-          some-arity s l listed f count h
+          some-arity s l listed f refl count h
           ∙ number-is s l 4 (record { bit = 8 + 4 * f; n = 1 + f; listed = listed }) 16
           (sym (each f h))
-      go (no h) = no-arity s l listed f count (omega arith) ∙ sym (List·getD-eq-default ars 16 (omega arith))
+      go (no h) = no-arity s l listed f refl count (omega arith) ∙ sym (List·getD-eq-default ars 16 (omega arith))
 
   pub arity-known : (λ f. arityAt s l listed f) ≡ arity-in ars
   arity-known = fun-ext arity-is

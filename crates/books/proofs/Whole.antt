@@ -9,7 +9,7 @@ use Rattle.patterns.specs.Derive.{Book}
 use Rattle.fields.specs.declared.Cursor.{Cursor}
 use Rattle.fields.specs.declared.Walk.{Walk}
 use Rattle.fields.specs.declared.Walk.the-variants.{On, No}
-use Rattle.fields.specs.Source.{from}
+use Rattle.fields.specs.Source.{from, start}
 use Rattle.fields.specs.Grammar.{done}
 use Rattle.fields.specs.Run.{State, state, Result, run, Ran}
 use Rattle.fields.specs.Run.Result.{ok, no}
@@ -18,7 +18,7 @@ use Rattle.grammar.specs.Books.{RuleBook, arity-in, a-signature, a-rule-list, a
 use Rattle.grammar.specs.Limits.{call-counts}
 use Rattle.terms.specs.Arity.{arityAt}
 use Rattle.terms.specs.Values.{nothing}
-use Rattle.books.specs.Counts.{noted, rulesOf, ruleCount, start, Counted, CountedBook}
+use Rattle.books.specs.Counts.{noted, rulesOf, ruleCount, Counted, CountedBook}
 use Rattle.books.proofs.Lookup.{arity-known}
 
 module _ (s l : List ℕ) (listed : Bool) {ws bs ws₁ bs₁ : List ℕ} {r : Walk} {d : Cursor}

@@ -2,11 +2,9 @@
 use Prim.Native.Nat.{ℕ, _+_}
 use mathlib.Core.Path.{_≡_}
 use mathlib.Core.List.{List, [], _∷_}
-use mathlib.Core.Bool.{Bool}
 use lib.ListN.{length, set}
 use Rattle.patterns.specs.First.{Exp}
 use Rattle.patterns.specs.Derive.{Rule, Book}
-use Rattle.fields.specs.declared.Cursor.{Cursor}
 use Rattle.fields.specs.Source.{Source}
 use Rattle.fields.specs.Grammar.{Grammar}
 use Rattle.fields.specs.Run.{State, run}
@@ -31,10 +29,6 @@ ruleCount b = length (b .rules)
 -- if the rules were read, each one's number of calls was noted from place k on
 pub record Counted (src : Source) (p : Grammar (Book Exp)) (σ : State) (k : ℕ) (before after : List ℕ) : Type 0 where
   pub all : (rs : Book Exp) (τ : State) → run src p σ ≡ ok rs τ → after ≡ noted before k (call-counts rs)
-
--- the cursor at a file's first field
-abbrev pub start : Bool → Cursor
-start listed = record { bit = 0; n = 0; listed = listed }
 
 -- the same of a whole book
 pub record CountedBook (src : Source) (σ : State) (before after : List ℕ) : Type 0 where

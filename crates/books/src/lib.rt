@@ -4,7 +4,7 @@ use fields::Walk;
 ghost use mathlib.Core.Path.{_≡_};
 ghost use Prim.Native.Nat.{_+_, _≤_};
 ghost use lib.ListN.{set};
-ghost use Rattle.fields.specs.Source.{from};
+ghost use Rattle.fields.specs.Source.{from, start};
 ghost use Rattle.fields.specs.Run.{state, Ran};
 ghost use Rattle.grammar.specs.Books.{
   arities-of,
@@ -18,7 +18,7 @@ ghost use Rattle.grammar.specs.Books.{
 };
 ghost use Rattle.terms.specs.Arity.{arityAt};
 ghost use Rattle.terms.specs.Values.{nothing};
-ghost use Rattle.books.specs.Counts.{callsOf, rulesOf, ruleCount, start, Counted, CountedBook};
+ghost use Rattle.books.specs.Counts.{callsOf, rulesOf, ruleCount, Counted, CountedBook};
 
 // The n arities of a book's symbols.
 fn arities(s: &[u8], l: &[u16], words: &mut [u16], bytes: &mut [u8], c: Cursor, n: usize) -> Walk
@@ -185,11 +185,7 @@ pub fn book(
     ensures walked { λ r. ⌜ Ran (from (now (s .entry)) (now (l .entry))) a-book (start listed) (now (words .entry)) (now (bytes .entry)) ruleCount r (now (words .exit)) (now (bytes .exit)) ⌝ }
     ensures counted { λ r. ⌜ CountedBook (from (now (s .entry)) (now (l .entry))) (state (start listed) (now (words .entry)) (now (bytes .entry))) (now (counts .entry)) (now (counts .exit)) ⌝ }
 {
-    let first = Cursor {
-        bit: 0,
-        n: 0,
-        listed,
-    };
+    let first = Cursor::first(listed);
     match signature(s, l, words, bytes, first) {
         Walk::No(m, d) => Walk::No(m, d),
         Walk::On(_, d) => rule_list(listed, s, s, l, words, bytes, counts, d),

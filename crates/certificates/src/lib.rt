@@ -6,7 +6,7 @@ ghost use mathlib.Core.Path.{_≡_};
 ghost use Prim.Native.Nat.{_+_, _≤_, _<_};
 ghost use mathlib.Core.Bool.{false};
 ghost use lib.ListN.{length, getD};
-ghost use Rattle.fields.specs.Source.{from};
+ghost use Rattle.fields.specs.Source.{from, start};
 ghost use Rattle.fields.specs.Run.{Ran};
 ghost use Rattle.terms.specs.Arity.{arityAt};
 ghost use Rattle.terms.specs.Values.{nothing};
@@ -280,18 +280,19 @@ fn certificate_of(
 
 // A certificate: how many lines, the lines, and the closing.
 pub fn certificate(
+    listed: bool,
     book: &[u8],
     counts: &[u8],
     s: &[u8],
     l: &[u16],
     words: &mut [u16],
     bytes: &mut [u8],
-    c: Cursor,
 ) -> Walk
     requires { ⌜ length (now counts) < 256 ⌝ }
-    ensures { λ r. ⌜ Ran (from (now (s .entry)) (now (l .entry))) (a-certificate (arityAt (now (book .entry)) (now (l .entry)) false) (now (counts .entry))) c (now (words .entry)) (now (bytes .entry)) nothing r (now (words .exit)) (now (bytes .exit)) ⌝ }
+    ensures { λ r. ⌜ Ran (from (now (s .entry)) (now (l .entry))) (a-certificate (arityAt (now (book .entry)) (now (l .entry)) false) (now (counts .entry))) (start listed) (now (words .entry)) (now (bytes .entry)) nothing r (now (words .exit)) (now (bytes .exit)) ⌝ }
 {
-    match c.take(8, 0, 256, 4, s, l, words, bytes) {
+    let first = Cursor::first(listed);
+    match first.take(8, 0, 256, 4, s, l, words, bytes) {
         Walk::No(m, d) => Walk::No(m, d),
         Walk::On(n, d) => certificate_of(book, counts, s, l, words, bytes, d, n),
     }

@@ -13,7 +13,7 @@ use Rattle.bits.specs.Packed.{width}
 use Rattle.bits.proofs.Fitting.{read-yes, read-past}
 use Rattle.fields.specs.declared.Cursor.{Cursor}
 use Rattle.fields.specs.declared.Field.the-variants.{Got, Bad}
-use Rattle.fields.specs.Source.{from, fieldAt}
+use Rattle.fields.specs.Source.{from, fieldAt, start}
 use Rattle.fields.specs.Kinds.{Kind, bits, Range, InRange, Unnormal, Spent}
 use Rattle.fields.specs.Grammar.{Grammar, ask, Outcome, outcome, trace}
 use Rattle.fields.specs.Faults.{Reached, Fault}
@@ -26,7 +26,6 @@ use Rattle.fields.proofs.Gives.{Gives, narrow-reached, reads-give}
 use Rattle.fields.proofs.Found.{trace-sized, trace-reads, trace-room}
 use Rattle.fields.proofs.Leads.{Why, way-stops, led-narrow, led-few, led-outcome}
 use Rattle.fields.proofs.Stops.{why, stops-spent, stops-bad, stops-refused}
-use Rattle.fields.proofs.Trips.{start}
 
 -- ---- bytes
 

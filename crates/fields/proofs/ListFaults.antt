@@ -11,7 +11,7 @@ use lib.ListN.{length, getD, take}
 use Rattle.bits.specs.Packed.{width}
 use Rattle.fields.specs.declared.Cursor.{Cursor}
 use Rattle.fields.specs.declared.Field.the-variants.{Got, Bad}
-use Rattle.fields.specs.Source.{from, fieldAt}
+use Rattle.fields.specs.Source.{from, fieldAt, start}
 use Rattle.fields.specs.Kinds.{Kind, bits, Range, InRange, Unnormal, Spent}
 use Rattle.fields.specs.Grammar.{Grammar, ask, Outcome, outcome, trace}
 use Rattle.fields.specs.Faults.{Led, Listed, ListFault}
@@ -24,7 +24,6 @@ use Rattle.fields.proofs.Gives.{Gives, narrow-reached, stands-give, tak
 use Rattle.fields.proofs.Found.{trace-sized, trace-listed}
 use Rattle.fields.proofs.Leads.{Why, way-stops, led-narrow, led-sized, led-few, led-outcome}
 use Rattle.fields.proofs.Stops.{why, stops-spent, stops-bad, stops-refused}
-use Rattle.fields.proofs.Trips.{start}
 
 -- a grammar whose fields' bits can be counted
 abbrev pub Countable : {A : Type 0} → Grammar A → Type 0

@@ -1,5 +1,5 @@
 -- How a run goes: a field, and one grammar after the other.
-use mathlib.Core.Path.{_≡_, refl, sym, ap, _∙_}
+use mathlib.Core.Path.{_≡_, refl, sym, ap, _∙_, subst}
 use mathlib.Core.List.{List}
 use mathlib.Core.Option.{none, some}
 use Prim.Native.Nat.{ℕ, _<_, _≤_}
@@ -8,13 +8,20 @@ use Rattle.bits.specs.Put.{putField}
 use Rattle.fields.specs.declared.Cursor.{Cursor}
 use Rattle.fields.specs.declared.Field.{Field}
 use Rattle.fields.specs.declared.Field.the-variants.{Got, Bad}
+use Rattle.fields.specs.declared.Walk.{Walk}
 use Rattle.fields.specs.declared.Walk.the-variants.{On, No}
 use Rattle.fields.specs.Source.{Source, onward, from, fieldAt}
 use Rattle.fields.specs.Kinds.{Kind, bits, Range, test, within, Bounded}
-use Rattle.fields.specs.Grammar.{field, look}
+use Rattle.fields.specs.Grammar.{Grammar, field, look}
 use Rattle.fields.proofs.Gives.{got-small}
 use Rattle.fields.proofs.Ranges.{within-low, within-high, within-ok, look-open}
 use Rattle.fields.specs.Run.{run, Ran, Took}
+
+-- a run from a cursor that is known
+pub ran-at : {A : Type 0} {src : Source} {p : Grammar A} {c d : Cursor} {ws bs ws₁ bs₁ : List ℕ} {val : A → ℕ} {r : Walk} → c ≡ d
+    → Ran src p c ws bs val r ws₁ bs₁ → Ran src p d ws bs val r ws₁ bs₁
+ran-at {src = src} {p = p} {ws = ws} {bs = bs} {ws₁ = ws₁} {bs₁ = bs₁} {val = val} {r = r} e h =
+    subst (λ (x : Cursor). Ran src p x ws bs val r ws₁ bs₁) e h
 
 -- ---- a field
 

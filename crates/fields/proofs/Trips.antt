@@ -11,17 +11,13 @@ use Rattle.bits.specs.Packed.{width, bytesFor, packed}
 use Rattle.bits.proofs.PackedFields.{length-packed, padding-zero, packed-reads}
 use Rattle.bits.proofs.OnlyPacked.{only-packed, only-packed-read}
 use Rattle.fields.specs.declared.Cursor.{Cursor}
-use Rattle.fields.specs.Source.{Source, from}
+use Rattle.fields.specs.Source.{Source, from, start}
 use Rattle.fields.specs.Grammar.{Grammar, outcome, trace}
 use Rattle.fields.specs.Grammar.Outcome.{ok}
 use Rattle.fields.proofs.Binds.{end-ok}
 use Rattle.fields.proofs.Sinks.{values}
 use Rattle.fields.proofs.Gives.{reached-in, reads-give, stands-give, take-stands}
 use Rattle.fields.proofs.Found.{Found, spells-found, trace-reached, trace-sized, trace-spells, trace-reads, trace-listed}
-
--- the cursor at the first field, of a list or of bytes
-abbrev pub start : Bool → Cursor
-start b = record { bit = 0; n = 0; listed = b }
 
 module _ {A : Type 0} (src : Source) (p : Grammar A) (b : Bool) {a : A} {d : Cursor} (e : outcome src p (start b) ≡ ok a d) where
   pub end-bit : d .bit ≡ width (trace src p (start b))

@@ -40,3 +40,7 @@ from s l w c = fieldAt s l w c
 -- the cursor past a field of w bits
 abbrev pub onward : ℕ → Cursor → Cursor
 onward w c = record { bit = c .bit + w; n = c .n + 1; listed = c .listed }
+
+-- the cursor at a file's first field
+abbrev pub start : Bool → Cursor
+start listed = record { bit = 0; n = 0; listed = listed }

@@ -3,7 +3,7 @@ ghost use mathlib.Core.Path.{_≡_};
 ghost use Prim.Native.Nat.{_<_, _≤_, _^_};
 ghost use lib.ListN.{set};
 ghost use Rattle.bits.specs.Put.{putField};
-ghost use Rattle.fields.specs.Source.{listedField, fieldAt, from, onward};
+ghost use Rattle.fields.specs.Source.{listedField, fieldAt, from, onward, start};
 ghost use Rattle.fields.specs.Run.{Took};
 
 // How far a walk has come: the bits and the fields passed. The next field stands at bit `bit` of the bytes or, if the
@@ -57,6 +57,17 @@ fn put_word(words: &mut [u16], n: usize, v: u16)
 }
 
 impl Cursor {
+    // At a file's first field.
+    pub fn first(listed: bool) -> Cursor
+        ensures { λ r. ⌜ r ≡ start listed ⌝ }
+    {
+        Cursor {
+            bit: 0,
+            n: 0,
+            listed,
+        }
+    }
+
     // The field of w bits that begins here.
     pub fn look(self, w: usize, s: &[u8], l: &[u16]) -> Field
         ensures { λ r. ⌜ r ≡ fieldAt (now (s .entry)) (now (l .entry)) w self ⌝ }

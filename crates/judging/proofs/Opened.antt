@@ -4,6 +4,7 @@ use mathlib.Core.Path.{_≡_, refl, sym, subst, _∙_}
 use mathlib.Core.Bool.{false}
 use mathlib.Core.List.{List, []}
 use native.Mathlib.Omega.{arith}
+use Rattle.fields.specs.Source.{start}
 use Rattle.answers.specs.Numbers.{paper-refusal, paper-verdict}
 use Rattle.bits.specs.Bits.{roomOf}
 use Rattle.bits.specs.Packed.{width, Reads}
@@ -19,7 +20,6 @@ use Rattle.grammar.specs.Limits.{BookFits, CertificateFits}
 use Rattle.grammar.proofs.BookFields.{a-book-exactly}
 use Rattle.grammar.proofs.CertificateFields.{a-certificate-exactly}
 use Rattle.terms.specs.Values.{nothing}
-use Rattle.books.specs.Counts.{start}
 use Rattle.layout.specs.declared.Opening.{Opening}
 use Rattle.layout.specs.declared.Opening.the-variants.{Open, Shut}
 use Rattle.answers.specs.declared.Refusal.{Refusal as Fault}

@@ -8,7 +8,7 @@ use lib.ListN.{length, take, length-map}
 use Rattle.patterns.specs.Refusal.{book-place}
 use Rattle.fields.specs.declared.Cursor.{Cursor}
 use Rattle.fields.specs.declared.Walk.{Walk}
-use Rattle.fields.specs.Source.{Source, from, fieldAt}
+use Rattle.fields.specs.Source.{Source, from, fieldAt, start}
 use Rattle.fields.specs.Grammar.{outcome}
 use Rattle.fields.specs.Grammar.Outcome.{ok}
 use Rattle.fields.specs.Run.{Ran}
@@ -19,7 +19,6 @@ use Rattle.grammar.specs.Certificates.{a-certificate}
 use Rattle.grammar.specs.Limits.{call-counts}
 use Rattle.terms.specs.Arity.{numberAt, arityAt}
 use Rattle.terms.specs.Values.{nothing}
-use Rattle.books.specs.Counts.{start}
 use Rattle.books.proofs.Lookup.{arity-known}
 use Rattle.layout.specs.declared.Opening.{Opening}
 use Rattle.layout.specs.declared.Opening.the-variants.{Open}

@@ -18,14 +18,13 @@ use Rattle.bits.proofs.Fitting.{read-yes}
 use Rattle.fields.specs.declared.Cursor.{Cursor}
 use Rattle.fields.specs.declared.Walk.{Walk}
 use Rattle.fields.specs.declared.Walk.the-variants.{On, No}
-use Rattle.fields.specs.Source.{from}
+use Rattle.fields.specs.Source.{from, start}
 use Rattle.fields.specs.Grammar.{Grammar, Outcome, outcome, trace}
 use Rattle.fields.specs.Grammar.Outcome.{ok, no}
 use Rattle.fields.specs.Run.{Shown, shown, Ran}
 use Rattle.fields.proofs.Sinks.{sets, puts, sunk, run-sunk}
 use Rattle.fields.proofs.Found.{end-room}
 use Rattle.fields.proofs.Trips.{end-bit, end-n}
-use Rattle.books.specs.Counts.{start}
 use Rattle.layout.specs.Files.{good, bad, ends-at, closed-bytes, open-bytes, closed-list, open-list}
 use Rattle.answers.specs.declared.W.{W}
 use Rattle.layout.specs.declared.Opening.the-variants.{Open, Shut}

@@ -14,7 +14,7 @@ use Rattle.bits.specs.Bits.{Bytes}
 use Rattle.bits.specs.Packed.{width, packed}
 use Rattle.patterns.specs.Refusal.{Refusal, book-place, certificate-place}
 use Rattle.fields.specs.declared.Cursor.{Cursor}
-use Rattle.fields.specs.Source.{from}
+use Rattle.fields.specs.Source.{from, start}
 use Rattle.fields.specs.Grammar.{Grammar, done, Outcome, outcome, trace}
 use Rattle.fields.specs.Faults.{Reached, Fault, Listed, ListFault}
 use Rattle.fields.proofs.Ways.{way-to}
@@ -25,7 +25,6 @@ use Rattle.fields.proofs.Faults.{Short, stopped-fault, fault-stops, reached-giv
 use Rattle.fields.proofs.ListFaults.{Countable, stopped-list-fault, list-fault-stops, listed-outcome}
 use Rattle.grammar.specs.Books.{RuleBook, a-book}
 use Rattle.grammar.proofs.FewFields.{book-countable, certificate-countable}
-use Rattle.books.specs.Counts.{start}
 use Rattle.layout.specs.Files.{good, bad, ends-at, closed-bytes, open-bytes, closed-list, open-list, certificate-of}
 use Rattle.layout.specs.FirstFaults.{Faulty}
 use Rattle.layout.proofs.RoundTrips.{bytes-packed, packed-opens}

@@ -13,7 +13,7 @@ use Rattle.bits.specs.Packed.{bytesFor, packed}
 use Rattle.bits.proofs.PackedFields.{length-packed}
 use Rattle.patterns.specs.Refusal.{Refusal, book-place, certificate-place}
 use Rattle.fields.specs.declared.Walk.{Walk}
-use Rattle.fields.specs.Source.{from}
+use Rattle.fields.specs.Source.{from, start}
 use Rattle.fields.specs.Grammar.{Grammar}
 use Rattle.fields.specs.Run.{Ran}
 use Rattle.fields.proofs.Sinks.{values, sets, puts, sets-first, puts-first}
@@ -21,7 +21,6 @@ use Rattle.fields.proofs.Found.{trace-narrow}
 use Rattle.grammar.specs.Certificates.{a-certificate}
 use Rattle.terms.specs.Arity.{arityAt}
 use Rattle.terms.specs.Values.{nothing}
-use Rattle.books.specs.Counts.{start}
 use Rattle.layout.specs.Files.{within-length, where-good, Opened, good, bad, open-bytes, open-list, certificate-of, open-book, open-certificate}
 use Rattle.layout.specs.declared.Opening.{Opening}
 use Rattle.answers.specs.declared.W.{W}

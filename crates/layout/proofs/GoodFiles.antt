@@ -11,10 +11,9 @@ use Rattle.answers.specs.declared.Answer.the-variants.{Filled}
 use Rattle.answers.specs.Carried.{refusal-at}
 use Rattle.answers.specs.Numbers.{refused-with, paper-answer}
 use Rattle.fields.specs.declared.Walk.{Walk}
-use Rattle.fields.specs.Source.{from}
+use Rattle.fields.specs.Source.{from, start}
 use Rattle.fields.specs.Grammar.{Grammar}
 use Rattle.fields.specs.Run.{Ran}
-use Rattle.books.specs.Counts.{start}
 use Rattle.layout.specs.Files.{open-bytes, open-list}
 use Rattle.layout.specs.Answers.{Given, listed, written}
 use Rattle.layout.specs.Promises.{Answers}

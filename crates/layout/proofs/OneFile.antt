@@ -5,6 +5,7 @@ use mathlib.Core.List.{List, [], append-nil}
 use mathlib.Core.Bool.{false}
 use native.Mathlib.Omega.{arith}
 use lib.ListN.{length}
+use Rattle.fields.specs.Source.{start}
 use Rattle.bits.specs.Bits.{Bytes}
 use Rattle.bits.specs.Packed.{packed, Reads}
 use Rattle.bits.proofs.PackedFields.{length-packed, packed-reads}
@@ -15,7 +16,6 @@ use Rattle.fields.specs.Grammar.{Grammar}
 use Rattle.fields.specs.Spells.{Spells}
 use Rattle.fields.proofs.Spelled.{spells-sized, spells-narrow, spells-few}
 use Rattle.fields.proofs.Found.{trace-spells, bytes-found}
-use Rattle.books.specs.Counts.{start}
 use Rattle.grammar.specs.Books.{RuleBook, a-book}
 use Rattle.grammar.specs.Limits.{BookFits, CertificateFits}
 use Rattle.grammar.specs.Listing.{book-fields, certificate-fields}

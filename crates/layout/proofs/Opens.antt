@@ -13,7 +13,7 @@ use Rattle.answers.specs.Numbers.{w-of}
 use Rattle.patterns.specs.Refusal.{book-place}
 use Rattle.fields.specs.declared.Cursor.{Cursor}
 use Rattle.fields.specs.declared.Walk.{Walk}
-use Rattle.fields.specs.Source.{from}
+use Rattle.fields.specs.Source.{from, start}
 use Rattle.fields.specs.Grammar.{Grammar, Outcome, outcome, trace}
 use Rattle.fields.specs.Grammar.Outcome.{ok, no}
 use Rattle.fields.specs.Run.{state, Ran}
@@ -22,7 +22,7 @@ use Rattle.fields.proofs.Found.{trace-spells}
 use Rattle.grammar.specs.Books.{RuleBook, a-book}
 use Rattle.grammar.specs.Limits.{BookFits, call-counts}
 use Rattle.grammar.proofs.BookFields.{book-exactly}
-use Rattle.books.specs.Counts.{noted, ruleCount, start, CountedBook}
+use Rattle.books.specs.Counts.{noted, ruleCount, CountedBook}
 use Rattle.layout.specs.declared.Opening.{Opening}
 use Rattle.answers.specs.declared.W.the-variants.{Book}
 use Rattle.layout.specs.Files.{good, bad, ends-at, closed-bytes, open-bytes, closed-list, open-list, open-book}

@@ -14,13 +14,12 @@ use Rattle.bits.proofs.PackedFields.{length-packed, padding-reads}
 use Rattle.patterns.specs.Refusal.{book-place, certificate-place}
 use Rattle.patterns.specs.First.{Exp, Pair, Pace}
 use Rattle.patterns.specs.Certificate.{Certificate}
-use Rattle.fields.specs.Source.{from}
+use Rattle.fields.specs.Source.{from, start}
 use Rattle.fields.specs.Grammar.{Grammar}
 use Rattle.fields.proofs.Sinks.{values}
 use Rattle.fields.proofs.Found.{Found}
 use Rattle.fields.proofs.Trips.{read-packed-field, read-trip, written-whole, write-trip}
 use Rattle.grammar.specs.Books.{RuleBook, a-book}
-use Rattle.books.specs.Counts.{start}
 use Rattle.layout.specs.Files.{within-length, where-good, Opened, good, bad, ends-at, open-bytes, open-list, certificate-of, open-book, open-certificate}
 use Rattle.layout.specs.Answers.{Given, gives, refuses, listed, written, reading-book, writing-book, listing-beside, writing-beside, reading-certificate, writing-certificate}
 use Rattle.layout.proofs.Opens.{in-bytes, in-list}

@@ -10,13 +10,12 @@ use Rattle.patterns.specs.Refusal.{Refusal, book-place, certificate-place}
 use Rattle.patterns.specs.First.{Exp, Pair, Pace}
 use Rattle.patterns.specs.Certificate.{Certificate}
 use Rattle.answers.specs.Carried.{refusal-at}
-use Rattle.fields.specs.Source.{from}
+use Rattle.fields.specs.Source.{from, start}
 use Rattle.fields.specs.Grammar.{Grammar, Outcome, outcome, trace}
 use Rattle.fields.specs.Grammar.Outcome.{ok, no}
 use Rattle.grammar.specs.Books.{RuleBook, arity-in, a-book}
 use Rattle.grammar.specs.Certificates.{a-certificate}
 use Rattle.grammar.specs.Limits.{call-counts}
-use Rattle.books.specs.Counts.{start}
 
 -- the tree with its fields, each a width and a value; or the refusal
 pub data Opened (A : Type 0) : Type 0 where

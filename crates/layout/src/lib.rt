@@ -2,7 +2,6 @@
 use answers::Answer;
 use answers::Refusal;
 use answers::W;
-use fields::Cursor;
 use fields::Walk;
 ghost use mathlib.Core.Path.{_≡_};
 ghost use Prim.Native.Nat.{_≤_, _*_};
@@ -155,12 +154,7 @@ pub fn open_certificate(book: &[u8], counts: &[u8], s: &[u8]) -> Opening
     let none = [0u16; 0];
     let mut words = [0u16; 0];
     let mut bytes = [0u8; 0];
-    let first = Cursor {
-        bit: 0,
-        n: 0,
-        listed: false,
-    };
-    let w = certificates::certificate(book, counts, s, &none, &mut words, &mut bytes, first);
+    let w = certificates::certificate(false, book, counts, s, &none, &mut words, &mut bytes);
     opened(s, W::Certificate, w)
 }
 
@@ -177,12 +171,7 @@ fn list_certificate(book: &[u8], counts: &[u8], s: &[u8], out: &mut [u16]) -> An
             }
             let none = [0u16; 0];
             let mut bytes = [0u8; 0];
-            let first = Cursor {
-                bit: 0,
-                n: 0,
-                listed: false,
-            };
-            let _again = certificates::certificate(book, counts, s, &none, out, &mut bytes, first);
+            let _again = certificates::certificate(false, book, counts, s, &none, out, &mut bytes);
             Answer::Filled(n)
         }
     }
@@ -213,12 +202,7 @@ fn pack_certificate(book: &[u8], counts: &[u8], fields: &[u16], out: &mut [u8]) 
     let none = [0u8; 0];
     let mut words = [0u16; 0];
     let mut bytes = [0u8; 0];
-    let first = Cursor {
-        bit: 0,
-        n: 0,
-        listed: true,
-    };
-    let w = certificates::certificate(book, counts, &none, fields, &mut words, &mut bytes, first);
+    let w = certificates::certificate(true, book, counts, &none, fields, &mut words, &mut bytes);
     match opened_list(fields, W::Certificate, w) {
         Opening::Shut(r) => Answer::Refused(r),
         Opening::Open { bits: k, .. } => {
@@ -230,13 +214,13 @@ fn pack_certificate(book: &[u8], counts: &[u8], fields: &[u16], out: &mut [u8]) 
                 return Answer::Refused(answers::whole(8, W::Certificate));
             }
             let _again = certificates::certificate(
+                true,
                 book,
                 counts,
                 &none,
                 fields,
                 &mut words,
                 out,
-                first,
             );
             Answer::Filled(n)
         }

@@ -119,7 +119,12 @@ fn closing_by(
     ensures { λ r. ⌜ ClosingBy (now (book .entry)) (now (certificate .entry)) line k alpha (now (w .entry)) (now (w .exit)) r ⌝ }
 {
     match closing_parts(book, certificate, w, line, k, alpha) {
-        Found::Fault { number: n, part: p } => Verdict::Refused(answers::carried(n, W::Closing, line, p)),
+        Found::Fault { number: n, part: p } => Verdict::Refused(answers::carried(
+            n,
+            W::Closing,
+            line,
+            p,
+        )),
         Found::Good(_) => accepted(line, k, alpha),
     }
 }

@@ -1,6 +1,6 @@
 -- The tests of symbols, and the look-up of arities.
 use Prim.Native.Nat.{ℕ, _+_, _*_, _<_, _≤_}
-use mathlib.Core.Path.{_≡_, refl, sym, ap}
+use mathlib.Core.Path.{_≡_, refl, sym, _∙_, ap}
 use mathlib.Core.List.{List}
 use mathlib.Core.Bool.{Bool}
 use mathlib.Core.Option.{none}
@@ -11,7 +11,7 @@ use Rattle.fields.specs.declared.Field.{Field}
 use Rattle.fields.specs.declared.Field.the-variants.{Got, Bad}
 use Rattle.fields.specs.declared.Walk.{Walk}
 use Rattle.fields.specs.declared.Walk.the-variants.{On, No}
-use Rattle.fields.specs.Source.{Source, fieldAt, onward}
+use Rattle.fields.specs.Source.{Source, fieldAt, onward, start}
 use Rattle.fields.specs.Run.{Ran}
 use Rattle.fields.specs.Grammar.{onField}
 use Rattle.terms.specs.Arity.{numberAt, arityAt}
@@ -30,7 +30,10 @@ pub number-is : (s l : List ℕ) (w : ℕ) (c : Cursor) (other : ℕ) {f : Field
 unfolding numberAt
 number-is s l w c other e = ap (λ f. onField f (λ v. v) (λ m. other)) (sym e)
 
-module _ (s l : List ℕ) (listed : Bool) (f : ℕ) {n : ℕ} (count : n ≡ numberAt s l 8 (record { bit = 0; n = 0; listed = listed }) 0) where
+module _ (s l : List ℕ) (listed : Bool) (f : ℕ) {n : ℕ} {c : Cursor} (first : c ≡ start listed) (read : n ≡ numberAt s l 8 c 0) where
+  count : n ≡ numberAt s l 8 (start listed) 0
+  count = read ∙ ap (λ (x : Cursor). numberAt s l 8 x 0) first
+
   pub no-arity : n ≤ f → arityAt s l listed f ≡ 16
   unfolding arityAt
   no-arity h = rw (← count, le-ltb f n h)

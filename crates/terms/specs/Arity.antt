@@ -4,7 +4,7 @@ use mathlib.Core.List.{List}
 use mathlib.Core.Bool.{Bool, cond}
 use lib.Dec.{ltb}
 use Rattle.fields.specs.declared.Cursor.{Cursor}
-use Rattle.fields.specs.Source.{fieldAt}
+use Rattle.fields.specs.Source.{fieldAt, start}
 use Rattle.fields.specs.Grammar.{onField}
 
 -- the number at a cursor, or another where there is none
@@ -14,5 +14,5 @@ numberAt s l w c other = onField (fieldAt s l w c) (λ v. v) (λ m. other)
 -- 01: "symbol count 8 bits; each arity 4". A symbol that is not below the count has the arity 16.
 unfoldable pub arityAt : List ℕ → List ℕ → Bool → ℕ → ℕ
 arityAt s l listed f =
-    cond (ltb f (numberAt s l 8 (record { bit = 0; n = 0; listed = listed }) 0))
+    cond (ltb f (numberAt s l 8 (start listed) 0))
     (numberAt s l 4 (record { bit = 8 + 4 * f; n = 1 + f; listed = listed }) 16) 16

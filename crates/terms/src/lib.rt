@@ -33,11 +33,7 @@ fn number(book: &[u8], l: &[u16], w: usize, c: Cursor, other: u16) -> u16
 pub fn arity(book: &[u8], l: &[u16], listed: bool, f: u16) -> u16
     ensures { λ r. ⌜ r ≡ arityAt (now (book .entry)) (now (l .entry)) listed f ⌝ }
 {
-    let first = Cursor {
-        bit: 0,
-        n: 0,
-        listed,
-    };
+    let first = Cursor::first(listed);
     if f >= number(book, l, 8, first, 0) {
         return 16;
     }

@@ -10,12 +10,11 @@ use Rattle.answers.specs.Carried.{refusal-at}
 use Rattle.answers.specs.Numbers.{Told, filled-with, refused-with}
 use Rattle.bits.specs.Packed.{packed}
 use Rattle.patterns.specs.Refusal.{Refusal, book-place, certificate-place}
-use Rattle.fields.specs.Source.{from}
+use Rattle.fields.specs.Source.{from, start}
 use Rattle.fields.specs.Grammar.{Grammar, Outcome, outcome, trace}
 use Rattle.fields.specs.Grammar.Outcome.{ok, no}
 use Rattle.fields.proofs.Refusing.{refused-few}
 use Rattle.grammar.specs.Books.{RuleBook, a-book}
-use Rattle.books.specs.Counts.{start}
 use Rattle.layout.specs.Files.{within-length, where-good, Opened, good, bad, ends-at, closed-bytes, open-bytes, closed-list, open-list, certificate-of, open-book, open-certificate}
 use Rattle.layout.specs.Answers.{Given, gives, refuses, listed, written, reading-book, writing-book, listing-beside, writing-beside, reading-certificate, writing-certificate, told}
 use Rattle.answers.specs.InTable.{InTable}

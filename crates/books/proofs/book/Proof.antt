@@ -1,4 +1,5 @@
 -- `books::book` meets its contract.
+use Rattle.fields.proofs.Runs.{ran-at}
 use Rattle.fields.proofs.Seqs.{seq-no}
 use Rattle.grammar.specs.Books.{a-book}
 use Rattle.books.proofs.Whole.{book-on, book-counted, book-uncounted}
@@ -8,15 +9,15 @@ use Rattle.books.proofs.book.Tie as tie
 
 returns : tie.Need-returns
 unfolding a-book
-returns c = (seq-no (c .before .before .before .before .before .before .before .signature .ensures) _ (c .before .m .given .1), book-uncounted _ _ _ (c .before .before .before .before .before .before .before .signature .ensures) (c .before .m .given .1))
+returns c = (seq-no (ran-at (c .before .before .before .before .before .before .before .before .before .before .first .ensures) (c .before .before .before .before .before .before .before .signature .ensures)) _ (c .before .m .given .1), book-uncounted _ _ _ (ran-at (c .before .before .before .before .before .before .before .before .before .before .first .ensures) (c .before .before .before .before .before .before .before .signature .ensures)) (c .before .m .given .1))
 
 returns-2 : tie.Need-returns-2
-returns-2 c = (book-on _ _ _ (c .before .before .before .before .before .before .before .before .before .before .before .before .before .before .before .before .before .signature .ensures) (c .before .before .before .before .before .before .before .before .before .before .before .d .given .1) (c .before .before .before .before .before .before .rule-list .ensures .0), book-counted _ _ _ (c .before .before .before .before .before .before .before .before .before .before .before .before .before .before .before .before .before .signature .ensures) (c .before .before .before .before .before .before .before .before .before .before .before .d .given .1) (c .before .before .before .before .before .before .rule-list .ensures .1))
+returns-2 c = (book-on _ _ _ (ran-at (c .before .before .before .before .before .before .before .before .before .before .before .before .before .before .before .before .before .before .before .before .first .ensures) (c .before .before .before .before .before .before .before .before .before .before .before .before .before .before .before .before .before .signature .ensures)) (c .before .before .before .before .before .before .before .before .before .before .before .d .given .1) (c .before .before .before .before .before .before .rule-list .ensures .0), book-counted _ _ _ (ran-at (c .before .before .before .before .before .before .before .before .before .before .before .before .before .before .before .before .before .before .before .before .first .ensures) (c .before .before .before .before .before .before .before .before .before .before .before .before .before .before .before .before .before .signature .ensures)) (c .before .before .before .before .before .before .before .before .before .before .before .d .given .1) (c .before .before .before .before .before .before .rule-list .ensures .1))
 
 pub book-spec : {M : Type 1} → statement M
 book-spec =
     tie.close (tie.spec
-    (λ c κs. search needs) (λ c. search needs) (λ c. search needs) (λ c κs. search needs) (λ c. search needs)
+    (λ c κs. search needs) (λ c κs. search needs) (λ c. search needs) (λ c. search needs) (λ c κs. search needs) (λ c. search needs)
     (λ c. search needs)
     returns
     (λ c. search needs) (λ c. search needs) (λ c. search needs)
