@@ -11,7 +11,7 @@ use Rattle.patterns.specs.Edition.{Edition}
 use Rattle.patterns.specs.Certificate.{Fills, Claim, Use}
 use Rattle.patterns.specs.Checks.{Found, Descent}
 
-listed-below : {A : Type 0} (l : List A) (k : ℕ) (a : A) → getElem? l k ≡ some a → k < length l
+pub listed-below : {A : Type 0} (l : List A) (k : ℕ) (a : A) → getElem? l k ≡ some a → k < length l
 listed-below [] k a p = absurd (Option·none-ne-some a p)
 listed-below (x ∷ xs) zero a p = omega arith
 listed-below (x ∷ xs) (suc k) a p = let q = listed-below xs k a p in omega arith
