@@ -1,5 +1,6 @@
 // The lines of a certificate, each over those before it, and the closing: the verdict on two good files.
 use comparing::Behind;
+use comparing::Filled;
 use comparing::Found;
 use comparing::Kind;
 use comparing::Subject;
@@ -75,11 +76,13 @@ fn closing_parts(
 {
     let left = begins::noted(w, LEFTS + line);
     let right = begins::noted(w, RIGHTS + line);
-    let from = comparing::plain_right(certificate, right, 1, alpha);
-    let to = Subject::Used {
+    let from = comparing::claimed_right(certificate, right, 1, alpha, Filled::Bare);
+    let later = alpha + k;
+    let to = Subject::Claimed {
         at: left,
         i: 1,
-        j: alpha + k,
+        j: later,
+        filled: Filled::Used,
     };
     match comparing::check(
         book,

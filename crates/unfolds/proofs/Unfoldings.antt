@@ -24,7 +24,8 @@ use Rattle.comparing.specs.declared.Found.the-variants.{Fault, Good}
 use Rattle.comparing.specs.declared.Kind.the-variants.{Unfold}
 use Rattle.comparing.specs.declared.Behind.the-variants.{Judged, Nothing}
 use Rattle.begins.specs.declared.Instance.{Instance}
-use Rattle.comparing.specs.declared.Subject.the-variants.{Empty, Call, Plain}
+use Rattle.comparing.specs.declared.Subject.the-variants.{Empty, Call, Claimed}
+use Rattle.comparing.specs.declared.Filled.the-variants.{Bare}
 use Rattle.instances.specs.Lying.{Lies, behind}
 use Rattle.instances.specs.Listings.{Lists}
 use Rattle.begins.specs.Placed.{RightAt, LeftAt, RuleAt, CallsAt}
@@ -157,7 +158,7 @@ stops-call {book} {cert} {w} {after} {right} {i} {count} {call-at} {at} {r} ne p
 
 -- ---- the whole unfold
 
-module _ {book cert w v : List ℕ} {left right : ℕ} (k : ℕ) {at : ℕ} {c : Read} {r : Found} (a : at ≡ getD w k 0) (t : Takes book 4 at c) (head : Checks book cert Unfold 0 right Nothing (Call (c .at)) (Plain left 1 0) w v r) where
+module _ {book cert w v : List ℕ} {left right : ℕ} (k : ℕ) {at : ℕ} {c : Read} {r : Found} (a : at ≡ getD w k 0) (t : Takes book 4 at c) (head : Checks book cert Unfold 0 right Nothing (Call (c .at)) (Claimed left 1 0 Bare) w v r) where
   rule-at : {ars : List ℕ} {B : Book Exp} {es : List (Claim Exp)} {θ : Fills Exp} → Scene book cert w ars B es θ → {u : Rule Exp} → getElem? B k ≡ some u
       → RuleAt book ars at u
   rule-at {ars} S {u} e = subst (λ j. RuleAt book ars j u) (sym a) (S .known .rule k u e)
