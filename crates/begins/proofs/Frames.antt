@@ -1,21 +1,19 @@
 -- What the table tells stays where no word of it has changed.
-use Prim.Native.Nat.{ℕ, zero, suc, _+_, _≤_, _<_}
-use mathlib.Core.Path.{_≡_, refl, sym, subst, _∙_}
-use mathlib.Core.List.{List, [], _∷_}
-use mathlib.Core.Bool.{Bool, true, false, cond}
-use mathlib.Core.Option.{some}
+use Prim.Native.Nat.{ℕ, _+_, _≤_, _<_}
+use mathlib.Core.Path.{refl, sym, subst, _∙_}
+use mathlib.Core.List.{List}
 use native.Mathlib.Omega.{arith}
-use borrow.Author.Tests.{ltb-true}
-use lib.ListN.{length, getD, getElem?}
-use lib.Dec.{ltb}
+use lib.ListN.{getD}
 use Rattle.patterns.specs.Term.{var, Filling}
 use Rattle.patterns.specs.First.{Exp, Pair}
 use Rattle.patterns.specs.Derive.{Book}
 use Rattle.patterns.specs.Certificate.{Fills, Claim, Use}
 use Rattle.table.specs.Places.{LEFTS, RIGHTS, EMPTY, OWN, USED, FIRST}
+use Rattle.patterns.proofs.Earlier.{listed-below}
 use Rattle.table.specs.Sides.{Kept}
+use Rattle.instances.proofs.Entries.{entry-same, fills-same}
 use Rattle.begins.specs.declared.Instance.{Instance}
-use Rattle.instances.specs.Fillings.{entry, Entry, unlisted, Fills as Tells}
+use Rattle.instances.specs.Fillings.{unlisted, Fills as Tells}
 use Rattle.begins.specs.Placed.{RuleAt, ClaimAt}
 use Rattle.begins.specs.Known.{Below, Known, Scene, Uses}
 
@@ -33,52 +31,27 @@ kept-below c = record { size = c .size; low = c .low }
 
 -- ---- fillings
 
-entry-below : (fills : ℕ) {n : ℕ} {w v : List ℕ} → fills + 64 ≤ n → Below n w v → (x : ℕ) → entry v fills x ≡ entry w fills x
-unfolding entry
-entry-below fills {n} {w} {v} h b x = go (ltb x 64) refl
-  where
-    go : (t : Bool) → ltb x 64 ≡ t → cond t (getD v (fills + x) 0) 0 ≡ cond t (getD w (fills + x) 0) 0
-    go true e = let l = ltb-true x 64 e in b .low (fills + x) (omega arith)
-    go false e = refl
-
 pub tells-below : {n fills : ℕ} {book cert w v : List ℕ} {θ : Filling Exp} → fills + 64 ≤ n → Below n w v → Tells book cert w fills θ → Tells book cert v fills θ
-tells-below {book = book} {cert = cert} {θ = θ} h b t = record {
-  each = λ x. subst (λ k. Entry book cert x k (θ x)) (sym (entry-below _ h b x)) (t .each x);
-}
-
-pub entry-above : (fills : ℕ) {base room : ℕ} {w v : List ℕ} → base + room ≤ fills → Kept base room w v → (x : ℕ) → entry v fills x ≡ entry w fills x
-unfolding entry
-entry-above fills {base} {room} {w} {v} h c x = go (ltb x 64)
-  where
-    go : (t : Bool) → cond t (getD v (fills + x) 0) 0 ≡ cond t (getD w (fills + x) 0) 0
-    go true = c .high (fills + x) (omega arith)
-    go false = refl
+tells-below h b t = fills-same _ _ _ (λ k p q. b .low k (omega arith)) t
 
 pub tells-above : {base room fills : ℕ} {book cert w v : List ℕ} {θ : Filling Exp} → base + room ≤ fills → Kept base room w v → Tells book cert w fills θ
     → Tells book cert v fills θ
-tells-above {book = book} {cert = cert} {θ = θ} h c t = record {
-  each = λ x. subst (λ k. Entry book cert x k (θ x)) (sym (entry-above _ h c x)) (t .each x);
-}
+tells-above h c t = fills-same _ _ _ (λ k p q. c .high k (omega arith)) t
 
 -- ---- rules and claims
-
-pub found-below : {A : Type 0} (l : List A) (k : ℕ) (a : A) → getElem? l k ≡ some a → k < length l
-found-below [] k a e = let z : _≡_ {A = ℕ} 0 1 = cc in absurd (omega arith)
-found-below (b ∷ l) zero a e = omega arith
-found-below (b ∷ l) (suc k) a e = omega (arith, found-below l k a e)
 
 pub known-below : {book cert w v ars : List ℕ} {B : Book Exp} {es : List (Claim Exp)} → Below OWN w v → Known book cert w ars B es → Known book cert v ars B es
 known-below {book} {cert} {w} {v} {ars} {B} {es} b k = record {
   arity = k .arity;
   few-rules = k .few-rules;
   few-claims = k .few-claims;
-  rule = λ i r e. let l = found-below B i r e in subst (λ j. RuleAt book ars j r) (sym (b .low i (omega (arith, k .few-rules)))) (k .rule i r e);
+  rule = λ i r e. let l = listed-below B i r e in subst (λ j. RuleAt book ars j r) (sym (b .low i (omega (arith, k .few-rules)))) (k .rule i r e);
   claim = λ i c e.
-      let l = found-below es i c e in
+      let l = listed-below es i c e in
       let left = b .low (LEFTS + i) (omega (arith, k .few-claims)) in
       let right = b .low (RIGHTS + i) (omega (arith, k .few-claims)) in
       subst (λ j. ClaimAt cert ars j (getD v (RIGHTS + i) 0) c) (sym left) (subst (λ j. ClaimAt cert ars (getD w (LEFTS + i) 0) j c) (sym right) (k .claim i c e));
-  bare = λ x. entry-below EMPTY (omega arith) b x ∙ k .bare x;
+  bare = λ x. entry-same EMPTY w v (λ i p q. b .low i (omega arith)) x ∙ k .bare x;
 }
 
 pub scene-below : {book cert w v ars : List ℕ} {B : Book Exp} {es : List (Claim Exp)} {θ : Fills Exp} → Below USED w v → Scene book cert w ars B es θ

@@ -23,11 +23,16 @@ use Rattle.begins.specs.Placed.{RuleAt, PassesRule, Notes, Indexes}
 use Rattle.instances.specs.Taking.{Takes}
 use Rattle.instances.proofs.Lying.{lies-rest, lies-front, lies-back}
 
+-- what `Notes` tells
+abbrev NotesTold : List ℕ → (at k n : ℕ) → List ℕ → Type 0
+NotesTold book at k n after =
+    (ars : List ℕ) (rs : Book Exp) → Known-arities book ars → length rs ≡ n → Every (RuleFits ars) rs
+    → Lies book at (flatMap rule-fields rs) → (i : ℕ) (r : Rule Exp) → getElem? rs i ≡ some r → RuleAt book ars (getD after (k + i) 0) r
+
 pub notes-none : (book : List ℕ) (at k n : ℕ) (w : List ℕ) → n ≡ 0 → Notes book at k n w w
 notes-none book at k n w e = record { told = go; kept = kept-self k n w }
   where
-    go : (ars : List ℕ) (rs : Book Exp) → Known-arities book ars → length rs ≡ n → Every (RuleFits ars) rs
-        → Lies book at (flatMap rule-fields rs) → (i : ℕ) (r : Rule Exp) → getElem? rs i ≡ some r → RuleAt book ars (getD w (k + i) 0) r
+    go : NotesTold book at k n w
     go ars [] a l f p i r q = let z : _≡_ {A = ℕ} 0 1 = cc in absurd (omega arith)
     go ars (r₀ ∷ rs) a l f p i r q = absurd (omega arith)
 
@@ -50,8 +55,7 @@ notes-one book at k n next w after ne room passes rest = record {
     here : getD after (k + 0) 0 ≡ at
     here = ap (λ j. getD after j 0) (omega arith) ∙ rest .kept .low k (omega arith) ∙ getD-set-same w k at 0 room
 
-    go : (ars : List ℕ) (rs : Book Exp) → Known-arities book ars → length rs ≡ n → Every (RuleFits ars) rs
-        → Lies book at (flatMap rule-fields rs) → (i : ℕ) (r : Rule Exp) → getElem? rs i ≡ some r → RuleAt book ars (getD after (k + i) 0) r
+    go : NotesTold book at k n after
     go ars [] a l f p i r q = absurd (ne (sym l))
     go ars (r₀ ∷ rs) a l f p zero r q =
         subst (λ j. RuleAt book ars j r) (sym here)

@@ -22,12 +22,17 @@ use Rattle.instances.specs.Taking.{Takes}
 use Rattle.instances.proofs.Taking.{term-at}
 use Rattle.instances.proofs.Lying.{lies-rest, lies-front, lies-back}
 
+-- what `Passes` tells
+abbrev PassesTold : List ℕ → List ℕ → (at n r : ℕ) → Type 0
+PassesTold book s at n r =
+    (ars : List ℕ) (ts : List Pattern) → Known-arities book ars → length ts ≡ n → Every (RootFits ars) ts
+    → Lies s at (flatMap term-fields ts) → r ≡ at + width (flatMap term-fields ts)
+
 pub passes-none : (book s : List ℕ) (at n : ℕ) → n ≡ 0 → Passes book s at n at
 unfolding flatMap width
 passes-none book s at n e = record { told = go }
   where
-    go : (ars : List ℕ) (ts : List Pattern) → Known-arities book ars → length ts ≡ n → Every (RootFits ars) ts
-        → Lies s at (flatMap term-fields ts) → at ≡ at + width (flatMap term-fields ts)
+    go : PassesTold book s at n at
     go ars [] k l f p = omega arith
     go ars (t ∷ ts) k l f p = absurd (omega arith)
 
@@ -35,8 +40,7 @@ pub passes-one : (book s : List ℕ) (at n next r : ℕ) → n ≢ 0 → Skips b
 unfolding flatMap Every
 passes-one book s at n next r ne skips rest = record { told = go }
   where
-    go : (ars : List ℕ) (ts : List Pattern) → Known-arities book ars → length ts ≡ n → Every (RootFits ars) ts
-        → Lies s at (flatMap term-fields ts) → r ≡ at + width (flatMap term-fields ts)
+    go : PassesTold book s at n r
     go ars [] k l f p = absurd (ne (sym l))
     go ars (t ∷ ts) k l f p =
         let here = skips .told t (term-at k (f .0 .fits) (lies-front s at (term-fields t) (flatMap term-fields ts) p)) in

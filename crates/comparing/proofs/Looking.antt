@@ -70,6 +70,10 @@ led-by {cert} {right} {n} {p} {r = r} e h = subst (λ x. Looks cert right x n p 
 
 -- ---- no index
 
+-- what `LooksLevel` tells
+abbrev LevelTold : List ℕ → List ℕ → (right n p : ℕ) → Found → Type 0
+LevelTold book cert right n p r = (ars : List ℕ) → Known-arities book ars → (m : Mark Exp) → RightAt cert ars right m → Finds (check n p (level m) ∷ []) 0 r
+
 levels : {book cert : List ℕ} {right : ℕ} {c : Read} {b : Bool} → Takes cert 1 right c → Levels book cert (c .at) b → (ars : List ℕ) → Known-arities book ars
     → (u : Pattern) → RightAt cert ars right (some u) → Says (All Still u) b
 unfolding if-any OnMark
@@ -80,7 +84,7 @@ module _ {book cert : List ℕ} {right n p : ℕ} {c : Read} (t : Takes cert 1 r
   unfolding if-any Met OnMark
   level-none z = record { told = go }
     where
-      go : (ars : List ℕ) → Known-arities book ars → (m : Mark Exp) → RightAt cert ars right m → Finds (check n p (level m) ∷ []) 0 (Good 0)
+      go : LevelTold book cert right n p (Good 0)
       go ars k none r = finds-met tt
       go ars k (some u) r = absurd (omega (arith, t .told 1 (term-fields u) (r .lies) .0))
 
@@ -89,7 +93,7 @@ module _ {book cert : List ℕ} {right n p : ℕ} {c : Read} (t : Takes cert 1 r
     unfolding if-any Met OnMark
     level-yes q = record { told = go }
       where
-        go : (ars : List ℕ) → Known-arities book ars → (m : Mark Exp) → RightAt cert ars right m → Finds (check n p (level m) ∷ []) 0 (Good 0)
+        go : LevelTold book cert right n p (Good 0)
         go ars k none r = absurd (ne (t .told 0 [] (r .lies) .0))
         go ars k (some u) r = finds-met (says-true _ (levels t l ars k u r) q)
 
@@ -97,6 +101,6 @@ module _ {book cert : List ℕ} {right n p : ℕ} {c : Read} (t : Takes cert 1 r
     unfolding if-any Met OnMark
     level-no q = record { told = go }
       where
-        go : (ars : List ℕ) → Known-arities book ars → (m : Mark Exp) → RightAt cert ars right m → Finds (check n p (level m) ∷ []) 0 (Fault n p)
+        go : LevelTold book cert right n p (Fault n p)
         go ars k none r = absurd (ne (t .told 0 [] (r .lies) .0))
         go ars k (some u) r = finds-unmet [] (says-false _ (levels t l ars k u r) q)

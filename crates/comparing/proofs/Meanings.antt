@@ -3,9 +3,9 @@ use Prim.Native.Nat.{ℕ}
 use mathlib.Core.Path.{_≡_, refl, sym, subst, ap}
 use mathlib.Core.Logic.{_≢_}
 use mathlib.Core.List.{List, []}
-use mathlib.Core.Option.{none, some}
+use mathlib.Core.Option.{none, some, Option·map}
 use native.Mathlib.Omega.{arith}
-use Rattle.patterns.specs.Term.{var, fill}
+use Rattle.patterns.specs.Term.{var, Filling, fill}
 use Rattle.patterns.specs.Edition.{reindex}
 use Rattle.patterns.specs.Derive.{Book}
 use Rattle.patterns.specs.Certificate.{Fills, by, Mark, Use, Claim}
@@ -17,17 +17,26 @@ use Rattle.grammar.specs.Limits.{RootFits}
 use Rattle.table.specs.Places.{USED}
 use Rattle.instances.specs.declared.Read.{Read}
 use Rattle.begins.specs.declared.Instance.{Instance}
-use Rattle.comparing.specs.declared.Subject.the-variants.{Empty, Call, Plain, Used}
-use Rattle.instances.specs.Lying.{Lies, behind}
+use Rattle.comparing.specs.declared.Subject.the-variants.{Empty, Call, Claimed}
+use Rattle.comparing.specs.declared.Subject.{Subject}
+use Rattle.comparing.specs.declared.Filled.{Filled}
+use Rattle.comparing.specs.declared.Filled.the-variants.{Bare, Used}
+use Rattle.instances.specs.Lying.{Lies, Known-arities, behind}
 use Rattle.instances.specs.Fillings.{Fills as Tells}
 use Rattle.begins.specs.Placed.{RightAt, LeftAt}
 use Rattle.instances.specs.Taking.{Takes}
 use Rattle.begins.specs.Known.{Known, Scene, Uses}
-use Rattle.comparing.specs.Subjects.{Means, PlainRight, UsedRight}
+use Rattle.comparing.specs.Subjects.{table-of, Means, RightMeans}
 use Rattle.instances.proofs.Lying.{lies-rest}
 use Rattle.instances.proofs.Terms.{as-it-is}
 use Rattle.instances.proofs.Taking.{term-at}
 use Rattle.begins.proofs.Frames.{bare-tells}
+
+-- a term of the certificate, reindexed and filled
+claimed-means : {book cert w ars : List ℕ} {at : ℕ} {t : Pattern} (f : Filled) (θ : Filling Exp) (i j : ℕ) → Known-arities book ars
+    → Tells book cert w (table-of f) θ → LeftAt cert ars at t → Means book cert w (Claimed at i j f) (some (fill θ (reindex one (i, j) t))) (behind at t)
+unfolding Means
+claimed-means {t = t} f θ i j a g l = record { term = t; filling = θ; lies = term-at a (l .fits) (l .lies); filled = g; mark = refl; ends = refl }
 
 module _ {book cert w ars : List ℕ} {B : Book Exp} {es : List (Claim Exp)} where
   -- a head or call of a rule, filled by the line's own filling
@@ -45,41 +54,29 @@ module _ {book cert w ars : List ℕ} {B : Book Exp} {es : List (Claim Exp)} whe
 
   -- a left reindexed
   pub left-means : {at : ℕ} {t : Pattern} (i j : ℕ) → Known book cert w ars B es → LeftAt cert ars at t
-      → Means book cert w (Plain at i j) (some (reindex one (i, j) t)) (behind at t)
-  unfolding Means
-  left-means {at} {t} i j k l = record {
-    term = t;
-    filling = var;
-    lies = term-at (k .arity) (l .fits) (l .lies);
-    filled = bare-tells k;
-    mark = ap some (sym (fill-var (reindex one (i, j) t)));
-    ends = refl;
-  }
+      → Means book cert w (Claimed at i j Bare) (some (reindex one (i, j) t)) (behind at t)
+  unfolding table-of
+  left-means {at} {t} i j k l =
+      subst (λ u. Means book cert w (Claimed at i j Bare) (some u) (behind at t)) (fill-var (reindex one (i, j) t))
+      (claimed-means Bare var i j (k .arity) (bare-tells k) l)
 
   -- and as it is
-  pub left-itself : {at : ℕ} {t : Pattern} → Known book cert w ars B es → LeftAt cert ars at t → Means book cert w (Plain at 1 0) (some t) (behind at t)
-  left-itself {at} {t} k l = subst (λ u. Means book cert w (Plain at 1 0) (some u) (behind at t)) (as-it-is t) (left-means 1 0 k l)
+  pub left-itself : {at : ℕ} {t : Pattern} → Known book cert w ars B es → LeftAt cert ars at t → Means book cert w (Claimed at 1 0 Bare) (some t) (behind at t)
+  left-itself {at} {t} k l = subst (λ u. Means book cert w (Claimed at 1 0 Bare) (some u) (behind at t)) (as-it-is t) (left-means 1 0 k l)
 
   -- a left reindexed and filled by a filling that stands in the table of uses
   pub filled-means : {at : ℕ} {t : Pattern} (θ : Fills Exp) (i j : ℕ) → Known book cert w ars B es → Tells book cert w USED (by θ) → LeftAt cert ars at t
-      → Means book cert w (Used at i j) (some (fill (by θ) (reindex one (i, j) t))) (behind at t)
-  unfolding Means
-  filled-means {at} {t} θ i j k f l = record {
-    term = t;
-    filling = by θ;
-    lies = term-at (k .arity) (l .fits) (l .lies);
-    filled = f;
-    mark = refl;
-    ends = refl;
-  }
+      → Means book cert w (Claimed at i j Used) (some (fill (by θ) (reindex one (i, j) t))) (behind at t)
+  unfolding table-of
+  filled-means θ i j k f l = claimed-means Used (by θ) i j (k .arity) f l
 
   -- the instance of a used left
   pub used-means : {u : Use Exp Pair} {c : Claim Exp} {r : Instance} → Known book cert w ars B es → Uses book cert w ars u c r
-      → Means book cert w (Used (r .left) (r .i) (r .j)) (some (instance one u (c .left))) (behind (r .left) (c .left))
+      → Means book cert w (Claimed (r .left) (r .i) (r .j) Used) (some (instance one u (c .left))) (behind (r .left) (c .left))
   unfolding instance
   used-means {u} {c} {r} k x =
-      subst (λ i. Means book cert w (Used (r .left) i (r .j)) (some (instance one u (c .left))) (behind (r .left) (c .left))) (sym (x .i))
-      (subst (λ j. Means book cert w (Used (r .left) (u .index .0) j) (some (instance one u (c .left))) (behind (r .left) (c .left))) (sym (x .j))
+      subst (λ i. Means book cert w (Claimed (r .left) i (r .j) Used) (some (instance one u (c .left))) (behind (r .left) (c .left))) (sym (x .i))
+      (subst (λ j. Means book cert w (Claimed (r .left) (u .index .0) j Used) (some (instance one u (c .left))) (behind (r .left) (c .left))) (sym (x .j))
       (filled-means (u .fills) (u .index .0) (u .index .1) k (x .used) (x .claim-at .left-at)))
 
 -- ---- rights
@@ -101,34 +98,42 @@ module _ {cert : List ℕ} {at : ℕ} {c : Read} (t : Takes cert 1 at c) where
     fits = r .fits;
   }
 
-module _ {cert : List ℕ} {at : ℕ} {c : Read} (t : Takes cert 1 at c) (i j : ℕ) where
-  pub plain-none : c .value ≡ 0 → PlainRight cert at i j Empty
+module _ {cert : List ℕ} {at : ℕ} {c : Read} (t : Takes cert 1 at c) (i j : ℕ) (f : Filled) where
+  pub right-empty : c .value ≡ 0 → RightMeans cert at i j f Empty
   unfolding Means
-  plain-none z = record { told = λ book w ars B es k m r. (0, (ap (reindex-mark one (i, j)) (right-none t r z), refl)) }
+  right-empty z = record { told = λ book w ars θ a g m r. (0, (ap (Option·map (λ t. fill θ (reindex one (i, j) t))) (right-none t r z), refl)) }
 
-  pub used-none : c .value ≡ 0 → UsedRight cert at i j Empty
-  unfolding Means
-  used-none z = record { told = λ book w ars B es k u e f m r. (0, (ap (instance-mark one u) (right-none t r z), refl)) }
-
-  pub plain-some : c .value ≢ 0 → PlainRight cert at i j (Plain (c .at) i j)
+  pub right-there : c .value ≢ 0 → RightMeans cert at i j f (Claimed (c .at) i j f)
   unfolding if-any
-  plain-some ne = record { told = go }
+  right-there ne = record { told = go }
     where
-      go : (book w ars : List ℕ) (B : Book Exp) (es : List (Claim Exp)) → Known book cert w ars B es → (m : Mark Exp) → RightAt cert ars at m
-          → (end : ℕ) × Means book cert w (Plain (c .at) i j) (reindex-mark one (i, j) m) end
-      go book w ars B es k none r = absurd (ne (t .told 0 [] (r .lies) .0))
-      go book w ars B es k (some u) r = (behind (c .at) u, left-means i j k (right-left t r))
+      go : (book w ars : List ℕ) (θ : Filling Exp) → Known-arities book ars → Tells book cert w (table-of f) θ → (m : Mark Exp) → RightAt cert ars at m
+          → (end : ℕ) × Means book cert w (Claimed (c .at) i j f) (Option·map (λ t. fill θ (reindex one (i, j) t)) m) end
+      go book w ars θ a g none r = absurd (ne (t .told 0 [] (r .lies) .0))
+      go book w ars θ a g (some u) r = (behind (c .at) u, claimed-means f θ i j a g (right-left t r))
 
-  pub used-some : c .value ≢ 0 → UsedRight cert at i j (Used (c .at) i j)
-  unfolding if-any instance
-  used-some ne = record { told = go }
-    where
-      go : (book w ars : List ℕ) (B : Book Exp) (es : List (Claim Exp)) → Known book cert w ars B es → (u : Use Exp Pair) → u .index ≡ (i, j)
-          → Tells book cert w USED (by (u .fills)) → (m : Mark Exp) → RightAt cert ars at m
-          → (end : ℕ) × Means book cert w (Used (c .at) i j) (instance-mark one u m) end
-      go book w ars B es k u e f none r = absurd (ne (t .told 0 [] (r .lies) .0))
-      go book w ars B es k u e f (some v) r = (
-        behind (c .at) v,
-        subst (λ q. Means book cert w (Used (c .at) i j) (some (fill (by (u .fills)) (reindex one q v))) (behind (c .at) v)) (sym e)
-            (filled-means (u .fills) i j k f (right-left t r)),
-      )
+-- a right reindexed
+bare-mark : (i j : ℕ) (m : Mark Exp) → Option·map (λ t. fill var (reindex one (i, j) t)) m ≡ reindex-mark one (i, j) m
+bare-mark i j none = refl
+bare-mark i j (some t) = ap some (fill-var (reindex one (i, j) t))
+
+pub plain-right : {book cert w ars : List ℕ} {B : Book Exp} {es : List (Claim Exp)} {at i j : ℕ} {r : Subject} → RightMeans cert at i j Bare r
+    → Known book cert w ars B es → (m : Mark Exp) → RightAt cert ars at m → (end : ℕ) × Means book cert w r (reindex-mark one (i, j) m) end
+unfolding table-of
+plain-right {book} {cert} {w} {ars} {i = i} {j = j} {r = r} h k m a =
+    let x = h .told book w ars var (k .arity) (bare-tells k) m a in
+    (x .0, subst (λ n. Means book cert w r n (x .0)) (bare-mark i j m) (x .1))
+
+-- the instance of a used right
+used-mark : (u : Use Exp Pair) (i j : ℕ) → u .index ≡ (i, j) → (m : Mark Exp) → Option·map (λ t. fill (by (u .fills)) (reindex one (i, j) t)) m ≡ instance-mark one u m
+unfolding instance
+used-mark u i j e none = refl
+used-mark u i j e (some t) = ap (λ q. some (fill (by (u .fills)) (reindex one q t))) (sym e)
+
+pub used-right : {book cert w ars : List ℕ} {B : Book Exp} {es : List (Claim Exp)} {u : Use Exp Pair} {c : Claim Exp} {x : Instance} {r : Subject}
+    → RightMeans cert (x .right) (x .i) (x .j) Used r → Known book cert w ars B es → Uses book cert w ars u c x
+    → (end : ℕ) × Means book cert w r (instance-mark one u (c .right)) end
+unfolding table-of
+used-right {book} {cert} {w} {ars} {u = u} {c = c} {x = x} {r = r} h k y =
+    let z = h .told book w ars (by (u .fills)) (k .arity) (y .used) (c .right) (y .claim-at .right-at) in
+    (z .0, subst (λ n. Means book cert w r n (z .0)) (used-mark u (x .i) (x .j) (λ i. (sym (y .i) i, sym (y .j) i)) (c .right)) (z .1))

@@ -10,7 +10,7 @@ use Rattle.patterns.specs.Certificate.{Mark}
 use Rattle.patterns.specs.First.{Exp, one as edition}
 use Rattle.patterns.specs.Checks.{OnMark}
 use Rattle.patterns.specs.Demand.{same, Met}
-use Rattle.table.specs.Places.{WORDS, EMPTY, OWN, USED, FIRST, SECOND, SIDE, NODES}
+use Rattle.table.specs.Places.{WORDS, OWN, USED, FIRST, SECOND, SIDE, NODES}
 use Rattle.table.specs.Nodes.{side}
 use Rattle.table.specs.Sides.{Room}
 use Rattle.table.specs.Marks.{Built}
@@ -20,14 +20,16 @@ use Rattle.table.proofs.Writes.{kept-self}
 use Rattle.table.proofs.Sides.{before}
 use Rattle.table.proofs.Marks.{built-empty, built-apart, built-small, built-large, sides-settle}
 use Rattle.comparing.specs.declared.Subject.{Subject}
-use Rattle.comparing.specs.declared.Subject.the-variants.{Empty, Call, Plain, Used}
+use Rattle.comparing.specs.declared.Subject.the-variants.{Empty, Call, Claimed}
+use Rattle.comparing.specs.declared.Filled.{Filled}
+use Rattle.comparing.specs.declared.Filled.the-variants.{Bare, Used}
 use Rattle.comparing.specs.declared.Compared.the-variants.{Equal, Unequal, TooBig}
 use Rattle.instances.specs.declared.Side.{Side}
 use Rattle.instances.specs.declared.Side.the-variants.{Done, Full}
 use Rattle.instances.specs.Lying.{arities, behind}
 use Rattle.instances.specs.Instances.{Stored, Few, Builds}
 use Rattle.begins.specs.Known.{Below}
-use Rattle.comparing.specs.Subjects.{InstanceAt, Means, Sided, Settles, Compares}
+use Rattle.comparing.specs.Subjects.{InstanceAt, table-of, Means, Sided, Settles, Compares}
 use Rattle.instances.proofs.Terms.{formed-instance}
 use Rattle.begins.proofs.Frames.{below-then, below-less, kept-below, tells-below}
 
@@ -44,12 +46,17 @@ instance-below h b x = record {
   ends = x .ends;
 }
 
+-- the words of a filling lie below the sides
+low-table : (f : Filled) → table-of f ≤ USED
+unfolding table-of
+low-table Bare = omega arith
+low-table Used = omega arith
+
 pub means-below : (book cert w v : List ℕ) (a : Subject) (m : Mark Exp) (end : ℕ) → Below FIRST w v → Means book cert w a m end → Means book cert v a m end
 unfolding Means
 means-below book cert w v Empty m end b x = x
 means-below book cert w v (Call at) m end b x = instance-below (omega arith) b x
-means-below book cert w v (Plain at i j) m end b x = instance-below (omega arith) b x
-means-below book cert w v (Used at i j) m end b x = instance-below (omega arith) b x
+means-below book cert w v (Claimed at i j f) m end b x = instance-below (omega (arith, low-table f)) b x
 
 instance-formed : {book s cert w : List ℕ} {at i j fills : ℕ} {m : Mark Exp} {end : ℕ} → InstanceAt book s cert w at i j fills m end
     → OnMark (Formed (arities book)) m
@@ -61,8 +68,7 @@ means-formed : (book cert w : List ℕ) (a : Subject) (m : Mark Exp) (end : ℕ)
 unfolding Means OnMark
 means-formed book cert w Empty m end x = subst (OnMark (Formed (arities book))) (sym (x .0)) tt
 means-formed book cert w (Call at) m end x = instance-formed x
-means-formed book cert w (Plain at i j) m end x = instance-formed x
-means-formed book cert w (Used at i j) m end x = instance-formed x
+means-formed book cert w (Claimed at i j f) m end x = instance-formed x
 
 -- ---- one side
 
@@ -85,13 +91,12 @@ module _ {book cert w after : List ℕ} {base at : ℕ} {r : Side} where
   unfolding Means
   sided-call b = record { told = stored-instance b; few = b .few; kept = b .kept }
 
-  pub sided-plain : (i j : ℕ) → Builds book cert cert base at i j EMPTY w after r → Sided book cert base (Plain at i j) w after r
+  pub sided-claimed : (i j : ℕ) (f : Filled) {fills : ℕ} → fills ≡ table-of f → Builds book cert cert base at i j fills w after r
+      → Sided book cert base (Claimed at i j f) w after r
   unfolding Means
-  sided-plain i j b = record { told = stored-instance b; few = b .few; kept = b .kept }
-
-  pub sided-used : (i j : ℕ) → Builds book cert cert base at i j USED w after r → Sided book cert base (Used at i j) w after r
-  unfolding Means
-  sided-used i j b = record { told = stored-instance b; few = b .few; kept = b .kept }
+  sided-claimed i j f e b =
+      let here = subst (λ k. Builds book cert cert base at i j k w after r) e b in
+      record { told = stored-instance here; few = here .few; kept = here .kept }
 
 pub sided-as : {book cert w after : List ℕ} {base : ℕ} {a b : Subject} {r : Side} → a ≡ b → Sided book cert base b w after r → Sided book cert base a w after r
 sided-as {book} {cert} {w} {after} {base} {r = r} e s = subst (λ x. Sided book cert base x w after r) (sym e) s

@@ -1,28 +1,28 @@
--- What is built for a comparison: the empty mark, a head or call of a rule filled by the line's own filling, a term of the certificate
--- reindexed, or one reindexed and filled by a use's filling.
+-- What is built for a comparison: the empty mark, a head or call of a rule filled by the line's own filling, or a term of the certificate
+-- reindexed, and filled by nothing or by a use's filling.
 use Prim.Native.Nat.{ℕ}
 use mathlib.Core.Path.{_≡_}
 use mathlib.Core.List.{List}
-use mathlib.Core.Option.{none, some}
+use mathlib.Core.Option.{none, some, Option·map}
 use Rattle.patterns.specs.Term.{Filling, fill}
 use Rattle.patterns.specs.Edition.{reindex}
-use Rattle.patterns.specs.Derive.{Book}
-use Rattle.patterns.specs.Certificate.{by, Mark, Use, Claim}
-use Rattle.patterns.specs.First.{Exp, Pattern, Pair, one}
-use Rattle.patterns.specs.Checks.{instance-mark, reindex-mark}
+use Rattle.patterns.specs.Certificate.{Mark}
+use Rattle.patterns.specs.First.{Exp, Pattern, one}
 use Rattle.patterns.specs.Demand.{small, same, Met}
 use Rattle.table.specs.Places.{EMPTY, OWN, USED, FIRST, SIDE}
 use Rattle.table.specs.Sides.{Kept}
 use Rattle.comparing.specs.declared.Subject.{Subject}
-use Rattle.comparing.specs.declared.Subject.the-variants.{Empty, Call, Plain, Used}
+use Rattle.comparing.specs.declared.Subject.the-variants.{Empty, Call, Claimed}
+use Rattle.comparing.specs.declared.Filled.{Filled}
+use Rattle.comparing.specs.declared.Filled.the-variants.{Bare, Used}
 use Rattle.comparing.specs.declared.Compared.{Compared}
 use Rattle.comparing.specs.declared.Compared.the-variants.{Equal, Unequal, TooBig}
 use Rattle.instances.specs.declared.Side.{Side}
-use Rattle.instances.specs.Lying.{TermAt, behind}
+use Rattle.instances.specs.Lying.{Known-arities, TermAt, behind}
 use Rattle.instances.specs.Fillings.{Fills}
 use Rattle.instances.specs.Instances.{Stored, Few}
 use Rattle.begins.specs.Placed.{RightAt}
-use Rattle.begins.specs.Known.{Below, Known}
+use Rattle.begins.specs.Known.{Below}
 
 -- an instance of the term at a bit of s, filled as the table at `fills` tells
 pub record InstanceAt (book s cert w : List ℕ) (at i j fills : ℕ) (m : Mark Exp) (end : ℕ) : Type 0 where
@@ -33,12 +33,16 @@ pub record InstanceAt (book s cert w : List ℕ) (at i j fills : ℕ) (m : Mark 
   pub mark : m ≡ some (fill filling (reindex one (i, j) term))
   pub ends : end ≡ behind at term
 
+-- where the words of its filling stand
+unfoldable pub table-of : Filled → ℕ
+table-of Bare = EMPTY
+table-of Used = USED
+
 -- the mark that a subject means, and the bit behind its term
 unfoldable pub Means : List ℕ → List ℕ → List ℕ → Subject → Mark Exp → ℕ → Type 0
 Means book cert w Empty m end = (m ≡ none) × (end ≡ 0)
 Means book cert w (Call at) m end = InstanceAt book book cert w at 1 0 OWN m end
-Means book cert w (Plain at i j) m end = InstanceAt book cert cert w at i j EMPTY m end
-Means book cert w (Used at i j) m end = InstanceAt book cert cert w at i j USED m end
+Means book cert w (Claimed at i j f) m end = InstanceAt book cert cert w at i j (table-of f) m end
 
 -- a side was built
 pub record Sided (book cert : List ℕ) (base : ℕ) (a : Subject) (w after : List ℕ) (r : Side) : Type 0 where
@@ -57,12 +61,7 @@ pub record Compares (book cert : List ℕ) (a b : Subject) (w after : List ℕ) 
   pub told : (m : Mark Exp) (e : ℕ) → Means book cert w a m e → (k : Mark Exp) (f : ℕ) → Means book cert w b k f → Settles m k e r
   pub below : Below FIRST w after
 
--- the right that lies at a bit, as a subject; a table of no filling, or a use's, fills it
-pub record PlainRight (cert : List ℕ) (at i j : ℕ) (r : Subject) : Type 0 where
-  pub told : (book w ars : List ℕ) (B : Book Exp) (es : List (Claim Exp)) → Known book cert w ars B es → (m : Mark Exp) → RightAt cert ars at m
-      → (end : ℕ) × Means book cert w r (reindex-mark one (i, j) m) end
-
-pub record UsedRight (cert : List ℕ) (at i j : ℕ) (r : Subject) : Type 0 where
-  pub told : (book w ars : List ℕ) (B : Book Exp) (es : List (Claim Exp)) → Known book cert w ars B es → (u : Use Exp Pair)
-      → u .index ≡ (i, j) → Fills book cert w USED (by (u .fills)) → (m : Mark Exp) → RightAt cert ars at m
-      → (end : ℕ) × Means book cert w r (instance-mark one u m) end
+-- the right that lies at a bit, as a subject
+pub record RightMeans (cert : List ℕ) (at i j : ℕ) (f : Filled) (r : Subject) : Type 0 where
+  pub told : (book w ars : List ℕ) (θ : Filling Exp) → Known-arities book ars → Fills book cert w (table-of f) θ → (m : Mark Exp) → RightAt cert ars at m
+      → (end : ℕ) × Means book cert w r (Option·map (λ t. fill θ (reindex one (i, j) t)) m) end

@@ -7,16 +7,26 @@ ghost use mathlib.Core.Path.{_≡_};
 ghost use Prim.Native.Nat.{_≤_};
 ghost use lib.ListN.{length};
 ghost use Rattle.table.specs.Places.{WORDS};
-ghost use Rattle.comparing.specs.Subjects.{PlainRight, UsedRight};
+ghost use Rattle.comparing.specs.Subjects.{RightMeans};
 ghost use Rattle.comparing.specs.Asked.{LedEquals, asked-at, Checks};
 
-// What is built for a comparison: the empty mark; a head or call of a rule at a bit of the book; a term at a bit of the
-// certificate reindexed; or one reindexed and filled by a use's filling.
+// What fills a term of the certificate: nothing, or a use's filling.
+pub enum Filled {
+    Bare,
+    Used,
+}
+
+// What is built for a comparison: the empty mark; a head or call of a rule at a bit of the book; or a term at a bit of the
+// certificate, reindexed and filled.
 pub enum Subject {
     Empty,
     Call(usize),
-    Plain { at: usize, i: u16, j: u16 },
-    Used { at: usize, i: u16, j: u16 },
+    Claimed {
+        at: usize,
+        i: u16,
+        j: u16,
+        filled: Filled,
+    },
 }
 
 // What a comparison comes to: equal, with the bit behind the first side's term; not equal; or a side has more than 1,024 nodes.
@@ -55,28 +65,21 @@ pub enum Asked {
     Present(u16),
 }
 
-// The right at a bit, reindexed.
-pub fn plain_right(certificate: &[u8], at: usize, i: u16, j: u16) -> Subject
-    ensures { λ r. ⌜ PlainRight (now (certificate .entry)) at i j r ⌝ }
+// The right at a bit, reindexed and filled.
+pub fn claimed_right(certificate: &[u8], at: usize, i: u16, j: u16, filled: Filled) -> Subject
+    ensures { λ r. ⌜ RightMeans (now (certificate .entry)) at i j filled r ⌝ }
 {
     let any = field(certificate, 1, at);
     let term = any.at;
     if any.value == 0 {
         return Subject::Empty;
     }
-    Subject::Plain { at: term, i, j }
-}
-
-// The right at a bit, reindexed and filled by a use's filling.
-pub fn used_right(certificate: &[u8], at: usize, i: u16, j: u16) -> Subject
-    ensures { λ r. ⌜ UsedRight (now (certificate .entry)) at i j r ⌝ }
-{
-    let any = field(certificate, 1, at);
-    let term = any.at;
-    if any.value == 0 {
-        return Subject::Empty;
+    Subject::Claimed {
+        at: term,
+        i,
+        j,
+        filled,
     }
-    Subject::Used { at: term, i, j }
 }
 
 // The same, else a number; then two sides are equal, else another.

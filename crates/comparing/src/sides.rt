@@ -1,5 +1,6 @@
 // Two sides of a comparison: built one after the other, and compared.
 use crate::Compared;
+use crate::Filled;
 use crate::Found;
 use crate::Subject;
 use instances::Side;
@@ -8,11 +9,22 @@ use table::FIRST;
 use table::OWN;
 use table::SECOND;
 use table::USED;
+ghost use mathlib.Core.Path.{_≡_};
 ghost use Prim.Native.Nat.{_+_, _≤_};
 ghost use lib.ListN.{length};
-ghost use Rattle.table.specs.Places.{WORDS, FIRST, SIDE};
-ghost use Rattle.comparing.specs.Subjects.{Sided, Compares};
+ghost use Rattle.table.specs.Places.{WORDS, USED, FIRST, SIDE};
+ghost use Rattle.comparing.specs.Subjects.{table-of, Sided, Compares};
 ghost use Rattle.comparing.specs.Asked.{Equals};
+
+// Where the words of a filling stand.
+fn table_of(filled: Filled) -> usize
+    ensures { λ r. ⌜ (r ≡ table-of filled) × (r ≤ USED) ⌝ }
+{
+    match filled {
+        Filled::Bare => EMPTY,
+        Filled::Used => USED,
+    }
+}
 
 // One side of a comparison.
 fn one_side(book: &[u8], certificate: &[u8], w: &mut [u64], base: usize, a: Subject) -> Side
@@ -22,7 +34,7 @@ fn one_side(book: &[u8], certificate: &[u8], w: &mut [u64], base: usize, a: Subj
     match a {
         Subject::Empty => Side::Done { nodes: 0, end: 0 },
         Subject::Call(at) => instances::build(book, book, certificate, w, base, at, 1, 0, OWN),
-        Subject::Plain { at, i, j } => instances::build(
+        Subject::Claimed { at, i, j, filled } => instances::build(
             book,
             certificate,
             certificate,
@@ -31,18 +43,7 @@ fn one_side(book: &[u8], certificate: &[u8], w: &mut [u64], base: usize, a: Subj
             at,
             i,
             j,
-            EMPTY,
-        ),
-        Subject::Used { at, i, j } => instances::build(
-            book,
-            certificate,
-            certificate,
-            w,
-            base,
-            at,
-            i,
-            j,
-            USED,
+            table_of(filled),
         ),
     }
 }

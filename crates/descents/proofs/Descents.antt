@@ -24,21 +24,22 @@ use Rattle.comparing.specs.declared.Found.the-variants.{Fault, Good}
 use Rattle.comparing.specs.declared.Kind.the-variants.{Descent}
 use Rattle.begins.specs.declared.Instance.{Instance}
 use Rattle.comparing.specs.declared.Subject.{Subject}
-use Rattle.comparing.specs.declared.Subject.the-variants.{Empty, Call, Plain, Used}
+use Rattle.comparing.specs.declared.Subject.the-variants.{Empty, Call, Claimed}
+use Rattle.comparing.specs.declared.Filled.the-variants.{Bare, Used}
 use Rattle.comparing.specs.declared.Behind.the-variants.{Nothing}
 use Rattle.instances.specs.Lying.{Lies, behind, Known-arities}
 use Rattle.instances.specs.Listings.{Lists}
 use Rattle.begins.specs.Placed.{RightAt, RuleAt}
 use Rattle.instances.specs.Taking.{Takes}
-use Rattle.begins.specs.Known.{Below, Uses, ReadsUse}
-use Rattle.comparing.specs.Subjects.{Means, PlainRight, UsedRight}
+use Rattle.begins.specs.Known.{Below, ReadsUse}
+use Rattle.comparing.specs.Subjects.{Means, RightMeans}
 use Rattle.comparing.specs.Found.{Finds}
 use Rattle.comparing.specs.Asked.{asked-at, checks-of, end-of, Checks}
 use Rattle.descents.specs.Descents.{Descending, base-checks, DescentBase, HeadAt, DescentHead, DescentCall, LevelRight, DescentBy, DescentOn, DescentAt}
 use Rattle.instances.proofs.Lying.{lies-front, lies-back}
 use Rattle.instances.proofs.Taking.{rest-at}
 use Rattle.begins.proofs.Frames.{below-then, below-less, kept-below, known-below, scene-below, uses-below, tells-above}
-use Rattle.comparing.proofs.Meanings.{call-means, left-means, left-itself, used-means}
+use Rattle.comparing.proofs.Meanings.{call-means, left-means, left-itself, used-means, plain-right, used-right}
 use Rattle.comparing.proofs.Finding.{finds-fault, finds-last, finds-stop, finds-then, finds-ending, finds-given}
 use Rattle.patterns.proofs.Every.{below-listed, map-listed}
 use Rattle.table.specs.Places.{OWN, FIRST}
@@ -46,7 +47,7 @@ use Rattle.begins.proofs.Calling.{head-lies, calls-at}
 
 -- ---- the parts of a descent
 
-module _ {book cert w v : List ℕ} {left right : ℕ} {base : Instance} {r : Found} (first : Checks book cert Descent 0 right Nothing (Used (base .left) (base .i) (base .j)) (Plain left 0 0) w v r) where
+module _ {book cert w v : List ℕ} {left right : ℕ} {base : Instance} {r : Found} (first : Checks book cert Descent 0 right Nothing (Claimed (base .left) (base .i) (base .j) Used) (Claimed left 0 0 Bare) w v r) where
   first-found : {ars : List ℕ} {B : Book Exp} {es : List (Claim Exp)} {θ : Fills Exp} {l : Claim Exp} {u : Use Exp Pair} {c : Claim Exp}
       → Descending book cert w ars B es θ left right l u c base
       → Finds (compare 9 0 (some (instance one u (c .left))) (some (reindex one (0, 0) (l .left)))) (behind (base .left) (c .left)) r
@@ -56,20 +57,17 @@ module _ {book cert w v : List ℕ} {left right : ℕ} {base : Instance} {r : Fo
   pub base-fault : {n p : ℕ} → r ≡ Fault n p → DescentBase book cert left right base w v (Fault n p)
   base-fault q = record { told = λ ars B es θ l u c D. (0, finds-stop _ (first-found D) q); below = first .below }
 
-  pub base-on : {x : ℕ} {theirs own : Subject} {after : List ℕ} {s : Found} → r ≡ Good x → UsedRight cert (base .right) (base .i) (base .j) theirs
-      → PlainRight cert right 0 0 own → Checks book cert Descent 1 right Nothing theirs own v after s → DescentBase book cert left right base w after s
+  pub base-on : {x : ℕ} {theirs own : Subject} {after : List ℕ} {s : Found} → r ≡ Good x → RightMeans cert (base .right) (base .i) (base .j) Used theirs
+      → RightMeans cert right 0 0 Bare own → Checks book cert Descent 1 right Nothing theirs own v after s → DescentBase book cert left right base w after s
   unfolding asked-at checks-of end-of
   base-on {x} {theirs} {own} {after} {s} q t o second = record { told = go; below = below-then (first .below) (second .below) }
     where
-      index : {ars : List ℕ} {u : Use Exp Pair} {c : Claim Exp} → Uses book cert w ars u c base → u .index ≡ (base .i, base .j)
-      index y = λ i. (sym (y .i) i, sym (y .j) i)
-
       go : (ars : List ℕ) (B : Book Exp) (es : List (Claim Exp)) (θ : Fills Exp) (l : Claim Exp) (u : Use Exp Pair) (c : Claim Exp)
           → Descending book cert w ars B es θ left right l u c base → (e : ℕ) × Finds (base-checks u c l) e s
       go ars B es θ l u c D =
           let known = known-below (below-less (omega arith) (first .below)) (D .scene .known) in
-          let a = t .told book v ars B es known u (index (D .base-at)) (uses-below (first .below) (D .base-at) .used) (c .right) (D .base-at .claim-at .right-at) in
-          let b = o .told book v ars B es known (l .right) (D .right-at) in
+          let a = used-right t known (uses-below (first .below) (D .base-at)) in
+          let b = plain-right o known (l .right) (D .right-at) in
           (a .0, finds-then (first-found D) q (λ z. second .told ars (known .arity) _ (D .right-at) _ _ (a .1) _ _ (b .1)))
 
 descending-below : {book cert w v ars : List ℕ} {B : Book Exp} {es : List (Claim Exp)} {θ : Fills Exp} {left right : ℕ} {l : Claim Exp} {u : Use Exp Pair} {c : Claim Exp} {base : Instance}
@@ -86,7 +84,7 @@ module _ {book cert w v : List ℕ} {left right : ℕ} {base : Instance} {head :
   head-fault d q = record { told = λ ars B es θ l u c D h t H. finds-stop _ (d .told ars B es θ l u c D .1) q; below = d .below }
 
   pub head-on : {x : ℕ} {after : List ℕ} {s : Found} → DescentBase book cert left right base w v r → r ≡ Good x
-      → Checks book cert Descent 2 right Nothing (Call head) (Plain left 1 1) v after s → DescentHead book cert left right base head w after s
+      → Checks book cert Descent 2 right Nothing (Call head) (Claimed left 1 1 Bare) v after s → DescentHead book cert left right base head w after s
   unfolding asked-at checks-of end-of
   head-on d q third = record {
     told = λ ars B es θ l u c D h t H.
@@ -100,7 +98,7 @@ module _ {book cert w v : List ℕ} {left right : ℕ} {base : Instance} {head :
   call-fault d q = record { told = λ ars B es θ l u c D h t H. (0, finds-stop _ (d .told ars B es θ l u c D h t H) q); below = d .below }
 
   pub call-on : {x : ℕ} {after : List ℕ} {s : Found} → DescentHead book cert left right base head w v r → r ≡ Good x
-      → Checks book cert Descent 3 right Nothing (Call x) (Plain left 1 0) v after s → DescentCall book cert left right base head w after s
+      → Checks book cert Descent 3 right Nothing (Call x) (Claimed left 1 0 Bare) v after s → DescentCall book cert left right base head w after s
   unfolding asked-at checks-of end-of
   call-on {x} d q fourth = record {
     told = λ ars B es θ l u c D h t H.

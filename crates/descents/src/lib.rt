@@ -1,6 +1,7 @@
 // The checks of a descent.
 use begins::Instance;
 use comparing::Behind;
+use comparing::Filled;
 use comparing::Found;
 use comparing::Kind;
 use comparing::Subject;
@@ -22,13 +23,20 @@ fn descent_base(
     requires { ⌜ WORDS ≤ length (now w) ⌝ }
     ensures { λ r. ⌜ DescentBase (now (book .entry)) (now (certificate .entry)) left right base (now (w .entry)) (now (w .exit)) r ⌝ }
 {
-    let theirs = Subject::Used {
+    let theirs = Subject::Claimed {
         at: base.left,
         i: base.i,
         j: base.j,
+        filled: Filled::Used,
     };
-    let their_right = comparing::used_right(certificate, base.right, base.i, base.j);
-    let own_right = comparing::plain_right(certificate, right, 0, 0);
+    let their_right = comparing::claimed_right(
+        certificate,
+        base.right,
+        base.i,
+        base.j,
+        Filled::Used,
+    );
+    let own_right = comparing::claimed_right(certificate, right, 0, 0, Filled::Bare);
     match comparing::check(
         book,
         certificate,
@@ -38,10 +46,11 @@ fn descent_base(
         right,
         Behind::Nothing,
         theirs,
-        Subject::Plain {
+        Subject::Claimed {
             at: left,
             i: 0,
             j: 0,
+            filled: Filled::Bare,
         },
     ) {
         Found::Fault { number: n, part: p } => Found::Fault { number: n, part: p },
@@ -83,10 +92,11 @@ fn descent_head(
             right,
             Behind::Nothing,
             Subject::Call(head),
-            Subject::Plain {
+            Subject::Claimed {
                 at: left,
                 i: 1,
                 j: 1,
+                filled: Filled::Bare,
             },
         ),
     }
@@ -116,10 +126,11 @@ fn descent_call(
             right,
             Behind::Nothing,
             Subject::Call(call),
-            Subject::Plain {
+            Subject::Claimed {
                 at: left,
                 i: 1,
                 j: 0,
+                filled: Filled::Bare,
             },
         ),
     }

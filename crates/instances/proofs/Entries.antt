@@ -5,15 +5,13 @@ use mathlib.Core.Logic.{_≢_}
 use mathlib.Core.List.{List}
 use native.Mathlib.Decide.{decLt}
 use native.Mathlib.Omega.{arith}
-use lib.ListN.{length, set, length-set}
+use lib.ListN.{length, getD, set, length-set}
 use lib.Seq.{getD-set-same, getD-set-other}
 use borrow.Author.Tests.{lt-ltb, le-ltb}
-use Rattle.patterns.specs.Term.{var, Filling}
+use Rattle.patterns.specs.Term.{Filling}
 use Rattle.patterns.specs.First.{Exp}
 use Rattle.table.specs.Sides.{Kept}
-use Rattle.table.proofs.Sides.{Apart, kept-apart}
-use Rattle.instances.specs.Fillings.{entry, unlisted, Fills}
-use Rattle.instances.specs.Listings.{Forgets}
+use Rattle.instances.specs.Fillings.{entry, Fills}
 
 -- a variable that no file names has no word
 pub entry-past : (w : List ℕ) (fills x : ℕ) → 64 ≤ x → entry w fills x ≡ 0
@@ -40,19 +38,15 @@ module _ (w : List ℕ) (fills x word : ℕ) (h : x < 64) where
 
 -- ---- a filling told
 
--- no filling is a table of zeros
-pub forgets-fills : {fills : ℕ} {w after : List ℕ} → Forgets fills w after → (book cert : List ℕ) → Fills book cert after fills var
-forgets-fills f book cert = record { each = λ x. unlisted (f .none x) }
+-- it stays told where its words do
+module _ (fills : ℕ) (w v : List ℕ) (same : (k : ℕ) → fills ≤ k → k < fills + 64 → getD v k 0 ≡ getD w k 0) where
+  pub entry-same : (x : ℕ) → entry v fills x ≡ entry w fills x
+  unfolding entry
+  entry-same x = go (decLt x 64)
+    where
+      go : Dec (x < 64) → entry v fills x ≡ entry w fills x
+      go (yes h) = rw (same (fills + x) (omega arith) (omega arith))
+      go (no h) = rw (le-ltb x 64 (omega arith))
 
-entry-apart : {fills base room : ℕ} {w v : List ℕ} → Kept base room w v → Apart fills 64 base room → (x : ℕ) → entry v fills x ≡ entry w fills x
-unfolding entry
-entry-apart {fills} {base} {room} {w} {v} k a x = go (decLt x 64)
-  where
-    go : Dec (x < 64) → entry v fills x ≡ entry w fills x
-    go (yes h) = rw (kept-apart a k (fills + x) (omega arith) (omega arith))
-    go (no h) = rw (le-ltb x 64 (omega arith))
-
--- a filling stays told while other parts of the table change
-pub fills-kept : {book cert w v : List ℕ} {fills base room : ℕ} {θ : Filling Exp} → Fills book cert w fills θ → Kept base room w v → Apart fills 64 base room
-    → Fills book cert v fills θ
-fills-kept f k a = record { each = λ x. rw (entry-apart k a x) (f .each x) }
+  pub fills-same : {book cert : List ℕ} {θ : Filling Exp} → Fills book cert w fills θ → Fills book cert v fills θ
+  fills-same f = record { each = λ x. rw (entry-same x) (f .each x) }

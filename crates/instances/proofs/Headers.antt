@@ -13,8 +13,8 @@ use Rattle.bits.specs.declared.Field.the-variants.{Got, Past}
 use Rattle.bits.proofs.Fitting.{read-got}
 use Rattle.bits.proofs.Bytes.{bits-lt}
 use Rattle.grammar.specs.Listing.{Fields}
-use Rattle.terms.specs.Arity.{numberAt, arityAt}
-use Rattle.fields.specs.Source.{fieldAt}
+use Rattle.terms.specs.Arity.{arityAt}
+use Rattle.terms.proofs.Arities.{in-bytes-only}
 use Rattle.instances.specs.Lying.{Lies, arities}
 use Rattle.instances.specs.Headers.{onField, variableAt, symbolAt, powerAt, byTag, headerAt}
 use Rattle.instances.specs.declared.Header.{Header}
@@ -46,11 +46,6 @@ module _ (book s : List ℕ) (at : ℕ) where
         lies-first s (at + 2 + 8) 12 a _ (omega arith) l₂,
         lies-first s (at + 2 + 8 + 12) 12 b _ (omega arith) l₃,
       )
-
--- a look-up in bytes does not depend on the list
-pub in-bytes-only : (book l : List ℕ) (f : ℕ) → arityAt book l false f ≡ arities book f
-unfolding arityAt numberAt fieldAt
-in-bytes-only book l f = refl
 
 -- ---- what the functions answer, each read r with what it is and what was found
 

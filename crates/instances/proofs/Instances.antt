@@ -3,10 +3,9 @@ use Prim.Native.Nat.{ℕ, _+_, _-_, _≤_, _<_, _^_}
 use mathlib.Core.Path.{_≡_, refl, sym, ap, ap₂, _∙_}
 use mathlib.Core.List.{List, [], _∷_, _++_, flatMap, append-nil}
 use mathlib.Core.Option.{some}
-use native.Mathlib.Decide.{decLt}
 use native.Mathlib.Omega.{arith}
 use lib.ListN.{length}
-use borrow.Author.Tests.{eq-eqb, ne-eqb, lt-ltb, le-ltb}
+use borrow.Author.Tests.{eq-eqb, ne-eqb}
 use Rattle.patterns.specs.Term.{Filling, fill, Node, nvar, nfun, npow, nodes}
 use Rattle.patterns.specs.Edition.{reindex}
 use Rattle.patterns.specs.First.{Exp, Pattern, shift, one}
@@ -30,6 +29,7 @@ use Rattle.instances.specs.declared.Turn.{Turn}
 use Rattle.instances.specs.declared.Turn.the-variants.{Over}
 use Rattle.instances.specs.declared.Side.the-variants.{Done, Full}
 use Rattle.instances.proofs.Walks.{walked-term}
+use Rattle.instances.proofs.Entries.{entry-same}
 use Rattle.instances.proofs.Goings.{going-over}
 use Rattle.instances.proofs.Loads.{filled-light}
 use Rattle.instances.proofs.Pushings.{took-as, Pushing, pushing-over, pushing-room, pushing-light}
@@ -62,18 +62,10 @@ module _ (book cert w : List ℕ) (fills i j : ℕ) where
     step-listed z t = took-as n (ap (λ k. walked book cert (k - 1) .met) e ∙ term-only h (λ q. z (e ∙ q))) t
 
 -- the table of a filling that lies below a side is not changed by what is pushed there
-entry-kept : (w v : List ℕ) (fills base x : ℕ) → fills + 64 ≤ base → Kept base SIDE w v → entry v fills x ≡ entry w fills x
-unfolding entry
-entry-kept w v fills base x h k = go (decLt x 64)
-  where
-    go : Dec (x < 64) → entry v fills x ≡ entry w fills x
-    go (yes l) = rw (lt-ltb x 64 l) (k .low (fills + x) (omega arith))
-    go (no l) = rw (le-ltb x 64 (omega arith))
-
 filled-kept : (book cert w v : List ℕ) (fills base i j : ℕ) (h : Header) → fills + 64 ≤ base → Kept base SIDE w v
     → flatMap (filled book cert v fills i j) (single h) ≡ flatMap (filled book cert w fills i j) (single h)
 unfolding single flatMap filled
-filled-kept book cert w v fills base i j (Variable x c) h k = rw (entry-kept w v fills base x h k)
+filled-kept book cert w v fills base i j (Variable x c) h k = rw (entry-same fills w v (λ y a b. k .low y (omega arith)) x)
 filled-kept book cert w v fills base i j (Symbol f n c) h k = refl
 filled-kept book cert w v fills base i j (Power s a b c) h k = refl
 filled-kept book cert w v fills base i j Missing h k = refl

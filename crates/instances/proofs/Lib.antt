@@ -6,10 +6,10 @@ pub mod Walks
 pub mod Goings
 pub mod Levels
 pub mod Loads
+pub mod Entries
 pub mod Pushings
 pub mod Instances
 pub mod Terms
-pub mod Entries
 pub mod Forgetting
 pub mod Noting
 pub mod Listings

@@ -1,6 +1,6 @@
--- Laws of instances of terms: reindexed by (1, 0) and unfilled a term is itself, and an instance keeps to the arities of the book.
+-- Laws of instances of terms: reindexed by (1, 0) a term is itself, and an instance keeps to the arities of the book.
 use Prim.Native.Nat.{ℕ}
-use mathlib.Core.Path.{_≡_, refl, ap, ap₂, _∙_}
+use mathlib.Core.Path.{_≡_, refl, ap, ap₂}
 use mathlib.Core.List.{List}
 use native.Mathlib.Omega.{arith}
 use Rattle.patterns.specs.Term.{Terms, var, fun, pow, nil, cons, Filling, fill, exps, exps*}
@@ -8,7 +8,6 @@ use Rattle.patterns.specs.Counters.{pair-path}
 use Rattle.patterns.specs.Edition.{reindex}
 use Rattle.patterns.specs.First.{Exp, Pattern, Pair, shift, one}
 use Rattle.patterns.specs.Formed.{Formed}
-use Rattle.patterns.proofs.Term.{fill-var}
 use Rattle.patterns.proofs.Formed.{formed-fill, formed-exps}
 use Rattle.instances.specs.Lying.{TermAt, arities}
 use Rattle.instances.specs.Fillings.{Entry, unlisted, listed, Fills}
@@ -32,9 +31,6 @@ mutual
 pub as-it-is : (t : Pattern) → reindex one (1, 0) t ≡ t
 unfolding reindex
 as-it-is t = same-term t
-
-pub unfilled : (t : Pattern) → fill var (reindex one (1, 0) t) ≡ t
-unfilled t = ap (fill var) (as-it-is t) ∙ fill-var t
 
 -- a variable's term keeps to the arities
 formed-entry : {book cert : List ℕ} {x word : ℕ} {t : Pattern} → Entry book cert x word t → Formed (arities book) t

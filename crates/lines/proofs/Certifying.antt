@@ -29,7 +29,7 @@ use Rattle.begins.specs.Known.{Known}
 use Rattle.lines.specs.Certificates.{LineAt, ClosingAt, LinesAt, Prepares, JudgesLines}
 use Rattle.instances.proofs.Lying.{lies-front, lies-back}
 use Rattle.instances.proofs.Taking.{rest-at}
-use Rattle.begins.proofs.Frames.{entry-above}
+use Rattle.instances.proofs.Entries.{entry-same}
 use Rattle.comparing.proofs.Finding.{at-fault, at-good}
 use Rattle.lines.proofs.Claims.{length-more}
 use Rattle.lines.proofs.Placing.{fault-carried, placed-none, placed-fault}
@@ -93,7 +93,7 @@ prepares {book} {w} {v} {after} f i = record {
     few-claims = omega arith;
     rule = λ k r e. i .told b arity fits lies k r e;
     claim = λ k c e. no-claim k c e;
-    bare = λ x. entry-above EMPTY (omega arith) (i .kept) x ∙ f .none x;
+    bare = λ x. entry-same EMPTY v after (λ k p q. i .kept .high k (omega arith)) x ∙ f .none x;
   };
   size = i .kept .size ∙ f .kept .size;
 }

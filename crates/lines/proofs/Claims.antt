@@ -2,11 +2,9 @@
 use Prim.Native.Nat.{ℕ, zero, suc, _+_, _<_}
 use mathlib.Core.Path.{_≡_, refl, sym, subst, ap, _∙_}
 use mathlib.Core.Logic.{_≢_, _⊎_, inl, inr}
-use mathlib.Core.Bool.{Bool, true, false, cond}
 use mathlib.Core.List.{List, [], _∷_, _++_}
 use mathlib.Core.Option.{some, Option·some-injective}
 use native.Mathlib.Omega.{arith}
-use lib.Dec.{ltb}
 use lib.ListN.{length, getD, set, getElem?, length-set}
 use lib.Seq.{getD-set-same, getD-set-other}
 use Rattle.bits.specs.Packed.{width}
@@ -21,7 +19,6 @@ use Rattle.table.specs.Places.{LEFTS, RIGHTS, EMPTY}
 use Rattle.instances.specs.declared.Read.{Read}
 use Rattle.comparing.specs.declared.Found.{Found}
 use Rattle.instances.specs.Lying.{Lies, behind}
-use Rattle.instances.specs.Fillings.{entry}
 use Rattle.instances.specs.Instances.{Skips}
 use Rattle.begins.specs.Placed.{RightAt, LeftAt, RuleAt, ClaimAt, PassesRight}
 use Rattle.instances.specs.Taking.{Takes}
@@ -32,7 +29,9 @@ use Rattle.descents.specs.Descents.{DescentAt}
 use Rattle.lines.specs.Certificates.{NotesLine, KindAt, LineAt}
 use Rattle.instances.proofs.Lying.{lies-front, lies-back}
 use Rattle.instances.proofs.Taking.{term-at, rest-at}
-use Rattle.begins.proofs.Frames.{known-below, found-below}
+use Rattle.patterns.proofs.Earlier.{listed-below}
+use Rattle.instances.proofs.Entries.{entry-same}
+use Rattle.begins.proofs.Frames.{known-below}
 
 -- ---- a line's claim among the others
 
@@ -60,21 +59,20 @@ length-more (b ∷ l) a = omega (arith, length-more l a)
 
 known-more : {book cert w v ars : List ℕ} {B : Book Exp} {es : List (Claim Exp)} {left right : ℕ} {c : Claim Exp} → NotesLine (length es) left right w v
     → length es < 255 → Known book cert w ars B es → ClaimAt cert ars left right c → Known book cert v ars B (es ++ (c ∷ []))
-unfolding entry
 known-more {book} {cert} {w} {v} {ars} {B} {es} {left} {right} {c} n small k here = record {
   arity = k .arity;
   few-rules = k .few-rules;
   few-claims = omega (arith, length-more es c);
   rule = λ i r e.
-      let l = found-below B i r e in
+      let l = listed-below B i r e in
       subst (λ j. RuleAt book ars j r) (sym (n .others i (λ z. omega (arith, k .few-rules)) (λ z. omega (arith, k .few-rules)))) (k .rule i r e);
   claim = λ i d e. go i d (found-more es c d i e);
-  bare = λ x. free x (ltb x 64) refl (k .bare x);
+  bare = λ x. entry-same EMPTY w v (λ i p q. n .others i (λ z. omega arith) (λ z. omega arith)) x ∙ k .bare x;
 }
   where
     go : (i : ℕ) (d : Claim Exp) → (getElem? es i ≡ some d) ⊎ ((i ≡ length es) × (c ≡ d)) → ClaimAt cert ars (getD v (LEFTS + i) 0) (getD v (RIGHTS + i) 0) d
     go i d (inl e) =
-        let l = found-below es i d e in
+        let l = listed-below es i d e in
         let a = n .others (LEFTS + i) (λ z. omega arith) (λ z. omega arith) in
         let b = n .others (RIGHTS + i) (λ z. omega arith) (λ z. omega arith) in
         subst (λ j. ClaimAt cert ars j (getD v (RIGHTS + i) 0) d) (sym a)
@@ -84,10 +82,6 @@ known-more {book} {cert} {w} {v} {ars} {B} {es} {left} {right} {c} n small k her
         let b : right ≡ getD v (RIGHTS + i) 0 = sym (n .right-word) ∙ ap (λ j. getD v (RIGHTS + j) 0) (sym (e .0)) in
         subst (λ x. ClaimAt cert ars (getD v (LEFTS + i) 0) (getD v (RIGHTS + i) 0) x) (e .1)
         (subst (λ j. ClaimAt cert ars j (getD v (RIGHTS + i) 0) c) a (subst (λ j. ClaimAt cert ars left j c) b here))
-
-    free : (x : ℕ) (t : Bool) → ltb x 64 ≡ t → cond t (getD w (EMPTY + x) 0) 0 ≡ 0 → cond t (getD v (EMPTY + x) 0) 0 ≡ 0
-    free x true e h = n .others (EMPTY + x) (λ z. omega arith) (λ z. omega arith) ∙ h
-    free x false e h = h
 
 -- the claims before a line, and the table that has its claim too
 known-as-before : {book cert v ars : List ℕ} {B : Book Exp} (es : List (Claim Exp)) (c : Claim Exp) → Known book cert v ars B (es ++ (c ∷ [])) → Known book cert v ars B es

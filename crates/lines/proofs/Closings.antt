@@ -23,20 +23,21 @@ use Rattle.comparing.specs.declared.Found.{Found}
 use Rattle.comparing.specs.declared.Found.the-variants.{Fault, Good}
 use Rattle.comparing.specs.declared.Kind.the-variants.{Closing as AtClosing}
 use Rattle.comparing.specs.declared.Subject.{Subject}
-use Rattle.comparing.specs.declared.Subject.the-variants.{Empty, Used}
+use Rattle.comparing.specs.declared.Subject.the-variants.{Empty, Claimed}
+use Rattle.comparing.specs.declared.Filled.the-variants.{Bare, Used}
 use Rattle.comparing.specs.declared.Behind.the-variants.{Nothing}
 use Rattle.instances.specs.Fillings.{Fills as Tells}
 use Rattle.instances.specs.Listings.{Lists}
 use Rattle.begins.specs.Placed.{RightAt, ClaimAt}
 use Rattle.instances.specs.Taking.{Takes}
 use Rattle.begins.specs.Known.{Known}
-use Rattle.comparing.specs.Subjects.{Means, PlainRight}
+use Rattle.comparing.specs.Subjects.{Means, RightMeans}
 use Rattle.comparing.specs.Found.{Finds}
 use Rattle.comparing.specs.Asked.{asked-at, checks-of, end-of, Checks}
 use Rattle.lines.specs.Certificates.{pace-of, ClosingFound, ClosingBy, ClosingAt}
 use Rattle.instances.proofs.Taking.{rest-at}
 use Rattle.begins.proofs.Frames.{below-less, kept-below, known-below, tells-below}
-use Rattle.comparing.proofs.Meanings.{filled-means}
+use Rattle.comparing.proofs.Meanings.{filled-means, plain-right}
 use Rattle.comparing.proofs.Finding.{fault-unmet, at-fault, at-good, finds-stop, finds-then, finds-given}
 use Rattle.patterns.proofs.Every.{below-listed}
 use Rattle.table.specs.Places.{LEFTS, RIGHTS, USED}
@@ -69,7 +70,7 @@ module _ {book cert w v : List ℕ} {left right : ℕ} {r : Found} (first : Chec
     size = first .below .size;
   }
 
-  module _ (k α : ℕ) {x : ℕ} {from-right : Subject} {after : List ℕ} {s : Found} (good : r ≡ Good x) (plain : PlainRight cert right 1 α from-right) (second : Checks book cert AtClosing 1 right Nothing from-right (Used left 1 (α + k)) v after s) where
+  module _ (k α : ℕ) {x : ℕ} {from-right : Subject} {after : List ℕ} {s : Found} (good : r ≡ Good x) (plain : RightMeans cert right 1 α Bare from-right) (second : Checks book cert AtClosing 1 right Nothing from-right (Claimed left 1 (α + k) Used) v after s) where
     loop-found : {ars : List ℕ} {B : Book Exp} {es : List (Claim Exp)} → Known book cert w ars B es → (d : Closing Exp Pace) → d .pace ≡ pace-of k α
         → Tells book cert w USED (by (d .fills)) → (l : Claim Exp) → ClaimAt cert ars left right l → (m : Mark Exp) → l .right ≡ m
         → (end : ℕ) × Finds (loop-checks one l d m) end s
@@ -79,7 +80,7 @@ module _ {book cert w v : List ℕ} {left right : ℕ} {r : Found} (first : Chec
     loop-found {ars} {B} {es} known d p filled l here (some u) q =
         let still = known-below (below-less (omega arith) (first .below)) known in
         let right-at : RightAt cert ars right (some u) = subst (RightAt cert ars right) q (here .right-at) in
-        let o = plain .told book v ars B es still (some u) right-at in
+        let o = plain-right plain still (some u) right-at in
         let t = filled-means (d .fills) 1 (α + k) still (tells-below (omega arith) (first .below) filled) (here .left-at) in (
           o .0,
           subst (λ c. Finds (compare 15 1 (some (reindex one (1, c .α) u)) (some (fill (by (d .fills)) (reindex one (1, c .α + c .k) (l .left))))) (o .0) s) (sym p)

@@ -3,6 +3,7 @@ use answers::Acceptance;
 use answers::Verdict;
 use answers::W;
 use comparing::Behind;
+use comparing::Filled;
 use comparing::Found;
 use comparing::Kind;
 use comparing::Subject;
@@ -74,11 +75,13 @@ fn closing_parts(
 {
     let left = begins::noted(w, LEFTS + line);
     let right = begins::noted(w, RIGHTS + line);
-    let from = comparing::plain_right(certificate, right, 1, alpha);
-    let to = Subject::Used {
+    let from = comparing::claimed_right(certificate, right, 1, alpha, Filled::Bare);
+    let later = alpha + k;
+    let to = Subject::Claimed {
         at: left,
         i: 1,
-        j: alpha + k,
+        j: later,
+        filled: Filled::Used,
     };
     match comparing::check(
         book,

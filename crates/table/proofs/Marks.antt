@@ -15,7 +15,7 @@ use Rattle.patterns.specs.Demand.{small, same, weight, Met}
 use Rattle.patterns.specs.First.{Exp, Pattern, exponents, one}
 use Rattle.patterns.specs.Push.{pushes, retag, expand}
 use Rattle.patterns.proofs.Term.{length-nodes}
-use Rattle.patterns.proofs.Push.{push-norm, push-instance}
+use Rattle.patterns.proofs.Push.{push-instance}
 use Rattle.patterns.proofs.Formed.{nodes-inj, formed-norm}
 use Rattle.table.specs.Places.{SIDE}
 use Rattle.table.specs.Nodes.{stack, side}
@@ -39,10 +39,6 @@ turned base ns m v (Count k) e h = (h .0, ap reverse (h .1) ∙ e)
 turned base ns m v NoRoom e h = omega (arith, length-reverse ns, ap length e)
 
 module _ (base : ℕ) (w v : List ℕ) (r : Pushed) where
-  pub built-term : (t : Pattern) → Took base 0 (nodes t) w v r → Built base (some t) v r
-  unfolding stack form markNodes
-  built-term t p = turned base (pushes exponents [] (nodes t)) (some t) v r (push-norm exponents t) (p .holds)
-
   -- straight from the nodes of a pattern and a filling
   pub built-instance : {E : Type 0} (h : E → Exp) (θ : Filling Exp) (t : Term E) → Took base 0 (expand θ (retag h (nodes t))) w v r
       → Built base (some (fill θ (exps h t))) v r

@@ -2,3 +2,4 @@
 pub mod Symbols
 pub mod Nodes
 pub mod Fillings
+pub mod Arities

@@ -1,6 +1,6 @@
 -- A call of an unfold with its use, and the call where it stops.
 use Prim.Native.Nat.{ℕ, _+_, _≤_, _<_}
-use mathlib.Core.Path.{_≡_, refl, sym, subst, _∙_}
+use mathlib.Core.Path.{_≡_, refl, subst, _∙_}
 use mathlib.Core.Logic.{_≢_}
 use mathlib.Core.List.{List, [], _∷_, _++_, flatMap}
 use mathlib.Core.Option.{Option, none, some}
@@ -26,11 +26,12 @@ use Rattle.comparing.specs.declared.Behind.the-variants.{Pending, Nothing}
 use Rattle.comparing.specs.declared.Asked.the-variants.{Led}
 use Rattle.begins.specs.declared.Instance.{Instance}
 use Rattle.comparing.specs.declared.Subject.{Subject}
-use Rattle.comparing.specs.declared.Subject.the-variants.{Call, Used}
+use Rattle.comparing.specs.declared.Subject.the-variants.{Call, Claimed}
+use Rattle.comparing.specs.declared.Filled.the-variants.{Bare, Used}
 use Rattle.instances.specs.Lying.{Lies, behind}
 use Rattle.instances.specs.Taking.{Takes}
 use Rattle.begins.specs.Known.{Uses, ReadsUse}
-use Rattle.comparing.specs.Subjects.{Means, PlainRight, UsedRight}
+use Rattle.comparing.specs.Subjects.{Means, RightMeans}
 use Rattle.comparing.specs.Found.{Finds}
 use Rattle.comparing.specs.Rights.{lead}
 use Rattle.comparing.specs.Asked.{asked-at, checks-of, end-of, Checks}
@@ -39,7 +40,7 @@ use Rattle.unfolds.specs.Unfoldings.{BehindStop, EndsAt, Unfolding, Stop
 use Rattle.instances.proofs.Lying.{lies-front}
 use Rattle.instances.proofs.Taking.{rest-at}
 use Rattle.begins.proofs.Frames.{below-then, below-less, known-below, scene-below, uses-below}
-use Rattle.comparing.proofs.Meanings.{call-means, used-means, right-itself}
+use Rattle.comparing.proofs.Meanings.{call-means, used-means, right-itself, plain-right, used-right}
 use Rattle.comparing.proofs.Finding.{finds-fault, finds-last, finds-stop, finds-then, finds-ending, finds-given}
 use Rattle.patterns.proofs.Every.{below-listed}
 
@@ -69,12 +70,12 @@ ends-fault q = record { told = λ ks e h. finds-fault h q }
 pub ends-good : {found : Found} {at x : ℕ} → found ≡ Good x → EndsAt found at (Good at)
 ends-good q = record { told = λ ks e h. finds-last h q }
 
-pub stops-by : {book cert w after : List ℕ} {right at : ℕ} {own theirs : Subject} {found r : Found} → PlainRight cert right 1 0 own
+pub stops-by : {book cert w after : List ℕ} {right at : ℕ} {own theirs : Subject} {found r : Found} → RightMeans cert right 1 0 Bare own
     → Checks book cert Unfold 15 right Nothing own theirs w after found → EndsAt found at r → StopsBy book cert right theirs at w after r
 unfolding asked-at checks-of end-of
 stops-by {book} {cert} {w} {after} {right} {at} {own} {theirs} p c e = record {
   told = λ ars B es m known a k f x.
-      let o = p .told book w ars B es known m a in
+      let o = plain-right p known m a in
       e .told (compare 12 15 m k) (o .0) (c .told ars (known .arity) m a m (o .0) (subst (λ n. Means book cert w own n (o .0)) (right-itself m) (o .1)) k f x);
   below = below-less (omega arith) (c .below);
 }
@@ -96,7 +97,7 @@ unfolding asked-at
 at-call j l h = rw (ne-eqb j 0 (λ z. omega arith), ne-eqb j 15 (λ z. omega arith))
 
 pub part-by : {book cert w after : List ℕ} {j at : ℕ} {q : Behind} {used : Instance} {r : Found}
-    → Checks book cert Unfold j (used .right) q (Call at) (Used (used .left) (used .i) (used .j)) w after r → PartBy book cert j q at used w after r
+    → Checks book cert Unfold j (used .right) q (Call at) (Claimed (used .left) (used .i) (used .j) Used) w after r → PartBy book cert j q at used w after r
 unfolding checks-of end-of
 part-by {book} {cert} {w} {after} {j} {at} {q} {used} {r} c = record {
   told = λ ars B es θ s v vs count a u d x.
@@ -122,19 +123,16 @@ module _ {book cert w after : List ℕ} {right j count at : ℕ} {q : Behind} {u
     below = below-less (omega arith) (part .below);
   }
 
-  pub ends-by : {x : ℕ} {theirs : Subject} {end : List ℕ} {s : Found} → r ≡ Good x → UsedRight cert (used .right) (used .i) (used .j) theirs
+  pub ends-by : {x : ℕ} {theirs : Subject} {end : List ℕ} {s : Found} → r ≡ Good x → RightMeans cert (used .right) (used .i) (used .j) Used theirs
       → StopsBy book cert right theirs (used .end) after end s → EndsBy book cert right j count at used w end s
   ends-by {x} {theirs} {end} {s} e t stopped = record {
     told = λ ars B es θ m v vs U u c y.
         let known = known-below (below-less (omega arith) (part .below)) (U .scene .known) in
-        let o = t .told book after ars B es known u (index u c y) (uses-below (part .below) y .used) (c .right) (y .claim-at .right-at) in
+        let o = used-right t known (uses-below (part .below) y) in
         finds-then (last-part U y) e
         (λ z. stopped .told ars B es m known (U .right-at) (instance-mark one u (c .right)) (o .0) (o .1));
     below = below-then (below-less (omega arith) (part .below)) (stopped .below);
   }
-    where
-      index : {ars : List ℕ} (u : Use Exp Pair) (c : Claim Exp) → Uses book cert w ars u c used → u .index ≡ (used .i, used .j)
-      index u c y = λ i. (sym (y .i) i, sym (y .j) i)
 
 -- ---- the call where an unfold stops, with a use or none
 

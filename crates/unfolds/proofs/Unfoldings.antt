@@ -24,7 +24,8 @@ use Rattle.comparing.specs.declared.Found.the-variants.{Fault, Good}
 use Rattle.comparing.specs.declared.Kind.the-variants.{Unfold}
 use Rattle.comparing.specs.declared.Behind.the-variants.{Judged, Nothing}
 use Rattle.begins.specs.declared.Instance.{Instance}
-use Rattle.comparing.specs.declared.Subject.the-variants.{Empty, Call, Plain}
+use Rattle.comparing.specs.declared.Subject.the-variants.{Empty, Call, Claimed}
+use Rattle.comparing.specs.declared.Filled.the-variants.{Bare}
 use Rattle.instances.specs.Lying.{Lies, behind}
 use Rattle.instances.specs.Listings.{Lists}
 use Rattle.begins.specs.Placed.{RightAt, LeftAt, RuleAt, CallsAt}
@@ -44,6 +45,20 @@ use Rattle.begins.proofs.Calling.{head-lies, calls-at}
 
 -- ---- the parts from j on
 
+-- what `Parts` tells, and `Stops`
+abbrev PartsTold : List ℕ → List ℕ → (right j count before call-at at : ℕ) → List ℕ → Found → Type 0
+PartsTold book cert right j count before call-at at w r =
+    (ars : List ℕ) (B : Book Exp) (es : List (Claim Exp)) (θ : Fills Exp) (m : Mark Exp) (vs : List Pattern)
+    → Unfolding book cert w ars B es θ right m call-at vs j count → (us : List (Use Exp Pair)) (last : Option (Use Exp Pair)) → length us ≡ before
+    → before < length vs → Every (UseFits ars (length es)) us → LastFits ars (length es) last → Lies cert at (flatMap use-fields us ++ if-any use-fields last)
+    → Finds (parts one es θ j vs us last m) (at + width (flatMap use-fields us ++ if-any use-fields last)) r
+
+abbrev StopsTold : List ℕ → List ℕ → (right i count call-at at : ℕ) → List ℕ → Found → Type 0
+StopsTold book cert right i count call-at at w r =
+    (ars : List ℕ) (B : Book Exp) (es : List (Claim Exp)) (θ : Fills Exp) (m : Mark Exp) (vs : List Pattern)
+    → Unfolding book cert w ars B es θ right m call-at vs 1 count → (s : Stop Exp Pair) → stop-number s ≡ i → StopFits ars (length es) (length vs) s
+    → Lies cert at (stop-fields s) → Finds (stops one es θ vs s m) (at + width (stop-fields s)) r
+
 -- the calls behind the first
 rest-calls : {book ars : List ℕ} {at next : ℕ} {v : Pattern} {vs : List Pattern} {j count : ℕ} → CallsAt book ars at (v ∷ vs) j count
     → next ≡ behind at v → CallsAt book ars next vs (j + 1) count
@@ -61,10 +76,7 @@ pub parts-last : {book cert w after : List ℕ} {right j count before call at : 
 unfolding flatMap
 parts-last {book} {cert} {w} {after} {right} {j} {count} {before} {call} {at} {r} z e = record { told = go; below = e .below }
   where
-    go : (ars : List ℕ) (B : Book Exp) (es : List (Claim Exp)) (θ : Fills Exp) (m : Mark Exp) (vs : List Pattern)
-        → Unfolding book cert w ars B es θ right m call vs j count → (us : List (Use Exp Pair)) (last : Option (Use Exp Pair)) → length us ≡ before
-        → before < length vs → Every (UseFits ars (length es)) us → LastFits ars (length es) last → Lies cert at (flatMap use-fields us ++ if-any use-fields last)
-        → Finds (parts one es θ j vs us last m) (at + width (flatMap use-fields us ++ if-any use-fields last)) r
+    go : PartsTold book cert right j count before call at w r
     go ars B es θ m [] U us last n l f g lies = absurd (omega arith)
     go ars B es θ m (v ∷ vs) U [] last n l f g lies = e .told ars B es θ m v vs U last g lies
     go ars B es θ m (v ∷ vs) U (u ∷ us) last n l f g lies = absurd (omega arith)
@@ -90,10 +102,7 @@ module _ {book cert w v after : List ℕ} {j call at : ℕ} {used : Instance} {r
   unfolding flatMap Every
   parts-fault {right} {count} {before} {n} {p} ne q = record { told = go; below = below-then (read .below) (below-less (omega arith) (part .below)) }
     where
-      go : (ars : List ℕ) (B : Book Exp) (es : List (Claim Exp)) (θ : Fills Exp) (m : Mark Exp) (vs : List Pattern)
-          → Unfolding book cert w ars B es θ right m call vs j count → (us : List (Use Exp Pair)) (last : Option (Use Exp Pair)) → length us ≡ before
-          → before < length vs → Every (UseFits ars (length es)) us → LastFits ars (length es) last → Lies cert at (flatMap use-fields us ++ if-any use-fields last)
-          → Finds (parts one es θ j vs us last m) (at + width (flatMap use-fields us ++ if-any use-fields last)) (Fault n p)
+      go : PartsTold book cert right j count before call at w (Fault n p)
       go ars B es θ m [] U us last e l f g lies = absurd (omega arith)
       go ars B es θ m (t ∷ ts) U [] last e l f g lies = absurd (ne (sym e))
       go ars B es θ m (t ∷ ts) U (u ∷ us) last e l f g lies =
@@ -108,10 +117,7 @@ module _ {book cert w v after : List ℕ} {j call at : ℕ} {used : Instance} {r
     below = below-then (read .below) (below-then (below-less (omega arith) (part .below)) (next .below));
   }
     where
-      go : (ars : List ℕ) (B : Book Exp) (es : List (Claim Exp)) (θ : Fills Exp) (m : Mark Exp) (vs : List Pattern)
-          → Unfolding book cert w ars B es θ right m call vs j count → (us : List (Use Exp Pair)) (last : Option (Use Exp Pair)) → length us ≡ before
-          → before < length vs → Every (UseFits ars (length es)) us → LastFits ars (length es) last → Lies cert at (flatMap use-fields us ++ if-any use-fields last)
-          → Finds (parts one es θ j vs us last m) (at + width (flatMap use-fields us ++ if-any use-fields last)) s
+      go : PartsTold book cert right j count before call at w s
       go ars B es θ m [] U us last e l f g lies = absurd (omega arith)
       go ars B es θ m (t ∷ ts) U [] last e l f g lies = absurd (ne (sym e))
       go ars B es θ m (t ∷ ts) U (u ∷ us) last e l f g lies =
@@ -133,9 +139,7 @@ pub stops-fact : {book cert w after : List ℕ} {right i count call-at at : ℕ}
 unfolding stops stop-number StopFits stop-fields width Means
 stops-fact {book} {cert} {w} {after} {right} {i} {count} {call-at} {at} {r} z p = record { told = go; below = p .below }
   where
-    go : (ars : List ℕ) (B : Book Exp) (es : List (Claim Exp)) (θ : Fills Exp) (m : Mark Exp) (vs : List Pattern)
-        → Unfolding book cert w ars B es θ right m call-at vs 1 count → (s : Stop Exp Pair) → stop-number s ≡ i → StopFits ars (length es) (length vs) s
-        → Lies cert at (stop-fields s) → Finds (stops one es θ vs s m) (at + width (stop-fields s)) r
+    go : StopsTold book cert right i count call-at at w r
     go ars B es θ m [] U fact e fits lies = finds-ending (omega arith) (p .told ars B es m (U .scene .known) (U .right-at) none 0 (refl, refl))
     go ars B es θ m (v ∷ vs) U fact e fits lies = absurd (omega arith)
     go ars B es θ m [] U (call us last) e fits lies = absurd (omega arith)
@@ -146,9 +150,7 @@ pub stops-call : {book cert w after : List ℕ} {right i count call-at at : ℕ}
 unfolding stops stop-number StopFits stop-fields
 stops-call {book} {cert} {w} {after} {right} {i} {count} {call-at} {at} {r} ne p = record { told = go; below = p .below }
   where
-    go : (ars : List ℕ) (B : Book Exp) (es : List (Claim Exp)) (θ : Fills Exp) (m : Mark Exp) (vs : List Pattern)
-        → Unfolding book cert w ars B es θ right m call-at vs 1 count → (s : Stop Exp Pair) → stop-number s ≡ i → StopFits ars (length es) (length vs) s
-        → Lies cert at (stop-fields s) → Finds (stops one es θ vs s m) (at + width (stop-fields s)) r
+    go : StopsTold book cert right i count call-at at w r
     go ars B es θ m [] U fact e fits lies = absurd (ne (sym e))
     go ars B es θ m (v ∷ vs) U fact e fits lies = absurd (ne (sym e))
     go ars B es θ m [] U (call us last) e fits lies = absurd (omega (arith, fits .0))
@@ -157,7 +159,7 @@ stops-call {book} {cert} {w} {after} {right} {i} {count} {call-at} {at} {r} ne p
 
 -- ---- the whole unfold
 
-module _ {book cert w v : List ℕ} {left right : ℕ} (k : ℕ) {at : ℕ} {c : Read} {r : Found} (a : at ≡ getD w k 0) (t : Takes book 4 at c) (head : Checks book cert Unfold 0 right Nothing (Call (c .at)) (Plain left 1 0) w v r) where
+module _ {book cert w v : List ℕ} {left right : ℕ} (k : ℕ) {at : ℕ} {c : Read} {r : Found} (a : at ≡ getD w k 0) (t : Takes book 4 at c) (head : Checks book cert Unfold 0 right Nothing (Call (c .at)) (Claimed left 1 0 Bare) w v r) where
   rule-at : {ars : List ℕ} {B : Book Exp} {es : List (Claim Exp)} {θ : Fills Exp} → Scene book cert w ars B es θ → {u : Rule Exp} → getElem? B k ≡ some u
       → RuleAt book ars at u
   rule-at {ars} S {u} e = subst (λ j. RuleAt book ars j u) (sym a) (S .known .rule k u e)

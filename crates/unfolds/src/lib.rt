@@ -1,6 +1,7 @@
 // The checks of an unfold.
 use begins::Instance;
 use comparing::Behind;
+use comparing::Filled;
 use comparing::Found;
 use comparing::Kind;
 use comparing::Subject;
@@ -42,7 +43,7 @@ fn stop_by(
     requires { ⌜ WORDS ≤ length (now w) ⌝ }
     ensures { λ r. ⌜ StopsBy (now (book .entry)) (now (certificate .entry)) right theirs at (now (w .entry)) (now (w .exit)) r ⌝ }
 {
-    let own = comparing::plain_right(certificate, right, 1, 0);
+    let own = comparing::claimed_right(certificate, right, 1, 0, Filled::Bare);
     let found = comparing::check(
         book,
         certificate,
@@ -70,10 +71,11 @@ fn part_by(
     requires { ⌜ WORDS ≤ length (now w) ⌝ }
     ensures { λ r. ⌜ PartBy (now (book .entry)) (now (certificate .entry)) j behind call used (now (w .entry)) (now (w .exit)) r ⌝ }
 {
-    let theirs = Subject::Used {
+    let theirs = Subject::Claimed {
         at: used.left,
         i: used.i,
         j: used.j,
+        filled: Filled::Used,
     };
     comparing::check(
         book,
@@ -102,7 +104,7 @@ fn last_by(
     requires { ⌜ WORDS ≤ length (now w) ⌝ }
     ensures { λ r. ⌜ EndsBy (now (book .entry)) (now (certificate .entry)) right j count call used (now (w .entry)) (now (w .exit)) r ⌝ }
 {
-    let theirs = comparing::used_right(certificate, used.right, used.i, used.j);
+    let theirs = comparing::claimed_right(certificate, used.right, used.i, used.j, Filled::Used);
     let end = used.end;
     let behind = behind_stop(j, count);
     match part_by(book, certificate, w, j, behind, call, used) {
@@ -233,10 +235,11 @@ fn unfold_by(
         right,
         Behind::Nothing,
         head,
-        Subject::Plain {
+        Subject::Claimed {
             at: left,
             i: 1,
             j: 0,
+            filled: Filled::Bare,
         },
     ) {
         Found::Fault { number: n, part: p } => Found::Fault { number: n, part: p },

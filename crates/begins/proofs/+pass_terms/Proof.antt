@@ -6,7 +6,7 @@ use borrow.Fn.Kinds.{In}
 use borrow.Fn.PlainCycle.{Measures, is, falls, and}
 use Rattle.begins.proofs.pass_terms.Reads as pass-terms
 use Rattle.begins.proofs.pass_terms.Kinds as pass-terms-kinds
-use Rattle.begins.proofs.+pass_terms.Lts-pass_terms as pass-terms-lts
+use Rattle.begins.proofs.+pass_terms.Lts-pass_terms as lts
 use Rattle.instances.proofs.skip.Reads as skip-reads
 use Rattle.begins.proofs.+pass_terms.{statement}
 use Rattle.begins.proofs.+pass_terms.Tie.{close}
@@ -14,65 +14,37 @@ use Rattle.begins.proofs.+pass_terms.Tie.{close}
 abbrev μ-pass-terms : Measures 2 pass-terms-kinds.ps ℕ
 μ-pass-terms κs a = a .1 .1 .1 .0
 
-abbrev pass-terms-at : ℕ → In 2 pass-terms-kinds.ps
-pass-terms-at t =
-    and 2 pass-terms-kinds.ps (is 2 pass-terms-kinds.ps μ-pass-terms t) pass-terms.Pre
+module _ (t : ℕ) where
+  abbrev here : In 2 pass-terms-kinds.ps
+  here = and 2 pass-terms-kinds.ps (is 2 pass-terms-kinds.ps μ-pass-terms t) pass-terms.Pre
 
-abbrev pass-terms-below : ℕ → In 2 pass-terms-kinds.ps
-pass-terms-below t =
-    and 2 pass-terms-kinds.ps (falls 2 pass-terms-kinds.ps _<_ μ-pass-terms t) pass-terms.Pre
+  abbrev below : In 2 pass-terms-kinds.ps
+  below = and 2 pass-terms-kinds.ps (falls 2 pass-terms-kinds.ps _<_ μ-pass-terms t) pass-terms.Pre
 
-pass-terms-returns : (t : ℕ) → pass-terms-lts.Need-returns (
-  skip-reads.Asked,
-  skip-reads.Learnt,
-  pass-terms-below t,
-  pass-terms.Post,
-) (pass-terms-at t) pass-terms.Post
-pass-terms-returns t c = passes-none _ _ _ _ (c .if1 .taken)
+  abbrev claims : lts.Claims
+  claims = (skip-reads.Asked, skip-reads.Learnt, below, pass-terms.Post)
 
-pass-terms-skip-requires : (t : ℕ) → pass-terms-lts.Need-skip-requires (
-  skip-reads.Asked,
-  skip-reads.Learnt,
-  pass-terms-below t,
-  pass-terms.Post,
-) (pass-terms-at t) pass-terms.Post
-pass-terms-skip-requires t c κs = search needs
+  returns : lts.Need-returns claims here pass-terms.Post
+  returns c = passes-none _ _ _ _ (c .if1 .taken)
 
-pass-terms-sub-pass-terms : (t : ℕ) → pass-terms-lts.Need-sub-pass-terms (
-  skip-reads.Asked,
-  skip-reads.Learnt,
-  pass-terms-below t,
-  pass-terms.Post,
-) (pass-terms-at t) pass-terms.Post
-pass-terms-sub-pass-terms t c = search needs
+  skip-requires : lts.Need-skip-requires claims here pass-terms.Post
+  skip-requires c κs = search needs
 
-pass-terms-pass-terms-requires : (t : ℕ) → pass-terms-lts.Need-pass-terms-requires (
-  skip-reads.Asked,
-  skip-reads.Learnt,
-  pass-terms-below t,
-  pass-terms.Post,
-) (pass-terms-at t) pass-terms.Post
-pass-terms-pass-terms-requires t c κs = search needs
+  sub-pass-terms : lts.Need-sub-pass-terms claims here pass-terms.Post
+  sub-pass-terms c = search needs
 
-pass-terms-returns-2 : (t : ℕ) → pass-terms-lts.Need-returns-2 (
-  skip-reads.Asked,
-  skip-reads.Learnt,
-  pass-terms-below t,
-  pass-terms.Post,
-) (pass-terms-at t) pass-terms.Post
-pass-terms-returns-2 t c = passes-one _ _ _ _ _ _ (c .before .before .if1 .left) (c .before .skip .ensures) (c .pass-terms .ensures)
+  pass-terms-requires : lts.Need-pass-terms-requires claims here pass-terms.Post
+  pass-terms-requires c κs = search needs
+
+  returns-2 : lts.Need-returns-2 claims here pass-terms.Post
+  returns-2 c = passes-one _ _ _ _ _ _ (c .before .before .if1 .left) (c .before .skip .ensures) (c .pass-terms .ensures)
 
 pub +pass-terms-spec : {M : Type 1} → statement M
-+pass-terms-spec = close μ-pass-terms λ t. pass-terms-lts.spec (
-  skip-reads.Asked,
-  skip-reads.Learnt,
-  pass-terms-below t,
-  pass-terms.Post,
-)
-    (pass-terms-at t)
++pass-terms-spec = close μ-pass-terms λ t. lts.spec (claims t)
+    (here t)
     pass-terms.Post
-    (pass-terms-returns t)
-    (pass-terms-skip-requires t)
-    (pass-terms-sub-pass-terms t)
-    (pass-terms-pass-terms-requires t)
-    (pass-terms-returns-2 t)
+    (returns t)
+    (skip-requires t)
+    (sub-pass-terms t)
+    (pass-terms-requires t)
+    (returns-2 t)

@@ -4,11 +4,11 @@ use borrow.Author.Needs.{needs}
 use Rattle.descents.proofs.descent_base.Statement.{statement}
 use Rattle.descents.proofs.descent_base.Tie as tie
 
-used-right-requires : tie.Need-used-right-requires
-used-right-requires c κs = search needs
+claimed-right-requires : tie.Need-claimed-right-requires
+claimed-right-requires c κs = search needs
 
-plain-right-requires : tie.Need-plain-right-requires
-plain-right-requires c κs = search needs
+claimed-right-requires-2 : tie.Need-claimed-right-requires-2
+claimed-right-requires-2 c κs = search needs
 
 check-requires : tie.Need-check-requires
 check-requires c κs = search needs
@@ -32,14 +32,14 @@ same-length-2 : tie.Need-same-length-2
 same-length-2 c = search needs
 
 returns-2 : tie.Need-returns-2
-returns-2 c = base-on (c .before .before .before .before .before .before .before .before .check .ensures) (c .before .before .before .before .enum-told .given .1) (c .before .before .before .before .before .before .before .before .before .before .before .used-right .ensures) (c .before .before .before .before .before .before .before .before .before .before .plain-right .ensures) (c .before .before .check2 .ensures)
+returns-2 c = base-on (c .before .before .before .before .before .before .before .before .check .ensures) (c .before .before .before .before .enum-told .given .1) (c .before .before .before .before .before .before .before .before .before .before .before .claimed-right .ensures) (c .before .before .before .before .before .before .before .before .before .before .claimed-right2 .ensures) (c .before .before .check2 .ensures)
 
 pub descent-base-spec : {M : Type 1} → statement M
 descent-base-spec =
     tie.close
     (tie.spec
-    used-right-requires
-    plain-right-requires
+    claimed-right-requires
+    claimed-right-requires-2
     check-requires
     enum-known-n
     enum-told

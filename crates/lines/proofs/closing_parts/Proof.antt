@@ -16,11 +16,11 @@ add-noted-2 c = search needs
 noted-requires-2 : tie.Need-noted-requires-2
 noted-requires-2 c κs = search needs
 
-plain-right-requires : tie.Need-plain-right-requires
-plain-right-requires c κs = search needs
+claimed-right-requires : tie.Need-claimed-right-requires
+claimed-right-requires c κs = search needs
 
-add-t18 : tie.Need-add-t18
-add-t18 c = search needs
+add-later : tie.Need-add-later
+add-later c = search needs
 
 check-requires : tie.Need-check-requires
 check-requires c κs = search needs
@@ -44,7 +44,7 @@ same-length-2 : tie.Need-same-length-2
 same-length-2 c = search needs
 
 returns-2 : tie.Need-returns-2
-returns-2 c = closing-loop (c .before .before .before .before .before .before .before .before .check .ensures) _ _ (c .before .before .before .before .enum-told .given .1) (c .before .before .before .before .before .before .before .before .before .before .plain-right .ensures) (c .before .before .check2 .ensures) (c .before .before .before .before .before .before .before .before .before .before .before .before .before .noted .ensures) (c .before .before .before .before .before .before .before .before .before .before .before .noted2 .ensures)
+returns-2 c = closing-loop (c .before .before .before .before .before .before .before .before .check .ensures) _ _ (c .before .before .before .before .enum-told .given .1) (c .before .before .before .before .before .before .before .before .before .before .claimed-right .ensures) (c .before .before .check2 .ensures) (c .before .before .before .before .before .before .before .before .before .before .before .before .before .noted .ensures) (c .before .before .before .before .before .before .before .before .before .before .before .noted2 .ensures)
 
 pub closing-parts-spec : {M : Type 1} → statement M
 closing-parts-spec =
@@ -54,8 +54,8 @@ closing-parts-spec =
     noted-requires
     add-noted-2
     noted-requires-2
-    plain-right-requires
-    add-t18
+    claimed-right-requires
+    add-later
     check-requires
     enum-known-n
     enum-told

@@ -4,8 +4,8 @@ use borrow.Author.Needs.{needs}
 use Rattle.unfolds.proofs.last_by.Statement.{statement}
 use Rattle.unfolds.proofs.last_by.Tie as tie
 
-used-right-requires : tie.Need-used-right-requires
-used-right-requires c κs = search needs
+claimed-right-requires : tie.Need-claimed-right-requires
+claimed-right-requires c κs = search needs
 
 behind-stop-requires : tie.Need-behind-stop-requires
 behind-stop-requires c κs = search needs
@@ -32,13 +32,13 @@ same-length-2 : tie.Need-same-length-2
 same-length-2 c = search needs
 
 returns-2 : tie.Need-returns-2
-returns-2 c = ends-by (c .before .before .before .before .before .before .before .before .before .before .behind-stop .ensures) (c .before .before .before .before .before .before .before .before .part-by .ensures) (c .before .before .before .before .enum-told .given .1) (c .before .before .before .before .before .before .before .before .before .before .before .used-right .ensures) (c .before .before .stop-by .ensures)
+returns-2 c = ends-by (c .before .before .before .before .before .before .before .before .before .before .behind-stop .ensures) (c .before .before .before .before .before .before .before .before .part-by .ensures) (c .before .before .before .before .enum-told .given .1) (c .before .before .before .before .before .before .before .before .before .before .before .claimed-right .ensures) (c .before .before .stop-by .ensures)
 
 pub last-by-spec : {M : Type 1} → statement M
 last-by-spec =
     tie.close
     (tie.spec
-    used-right-requires
+    claimed-right-requires
     behind-stop-requires
     part-by-requires
     enum-known-n

@@ -4,8 +4,8 @@ use borrow.Author.Needs.{needs}
 use Rattle.unfolds.proofs.stop_by.Statement.{statement}
 use Rattle.unfolds.proofs.stop_by.Tie as tie
 
-plain-right-requires : tie.Need-plain-right-requires
-plain-right-requires c κs = search needs
+claimed-right-requires : tie.Need-claimed-right-requires
+claimed-right-requires c κs = search needs
 
 check-requires : tie.Need-check-requires
 check-requires c κs = search needs
@@ -17,8 +17,8 @@ same-length : tie.Need-same-length
 same-length c = search needs
 
 returns : tie.Need-returns
-returns c = stops-by (c .before .before .before .before .before .plain-right .ensures) (c .before .before .before .check .ensures) (c .ending .ensures)
+returns c = stops-by (c .before .before .before .before .before .claimed-right .ensures) (c .before .before .before .check .ensures) (c .ending .ensures)
 
 pub stop-by-spec : {M : Type 1} → statement M
 stop-by-spec =
-    tie.close (tie.spec plain-right-requires check-requires ending-requires same-length returns)
+    tie.close (tie.spec claimed-right-requires check-requires ending-requires same-length returns)
