@@ -122,12 +122,10 @@ fn closing_by(
     ensures { λ r. ⌜ ClosingBy (now (book .entry)) (now (certificate .entry)) line k alpha (now (w .entry)) (now (w .exit)) r ⌝ }
 {
     match closing_parts(book, certificate, w, line, k, alpha) {
-        Found::Fault { number: n, part: p } => Verdict::Refused(answers::carried(
-            n,
-            W::Closing,
-            line,
-            p,
-        )),
+        Found::Fault { number: n, part: p } => {
+            let refusal = answers::carried(n, W::Closing, line, p);
+            Verdict::Refused(refusal)
+        }
         Found::Good(_) => accepted(line, k, alpha),
     }
 }
