@@ -1,5 +1,4 @@
 -- Bits in lists of bytes: in a list with one byte more, in two lists joined, past the end; bytes are equal where their bits are.
--- Assumes nothing.
 use mathlib.Core.Path.{_≡_, refl, sym, ap, _∙_}
 use mathlib.Core.List.{List, [], _∷_, _++_}
 use Prim.Native.Nat.{ℕ, suc, _+_, _-_, _*_, _/_, _%_, _^_, _≤_, _<_}

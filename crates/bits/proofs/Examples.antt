@@ -1,5 +1,4 @@
 -- Worked examples of the packed layout: the rule book that document 01 shows, a field put across three bytes, and one that finds no room.
--- Assumes nothing.
 use mathlib.Core.Path.{_≡_, refl}
 use mathlib.Core.List.{[], _∷_}
 use Rattle.bits.specs.Bits.{spelled}

@@ -1,5 +1,4 @@
 -- Whether a field fits, decided: it has at most 16 bits and ends within the bytes; and what `take` answers then.
--- Assumes nothing.
 use mathlib.Core.Path.{_≡_, refl, ap, ap₂, _∙_}
 use mathlib.Core.List.{List}
 use mathlib.Core.Bool.{Bool, true, false, _&&_, cond, false≢true}

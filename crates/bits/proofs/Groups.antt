@@ -1,5 +1,4 @@
 -- Lists of bits: their lengths, what stands at a place, and that the bytes made of bits have just these bits, then zeros.
--- Assumes nothing.
 use mathlib.Core.Path.{_≡_, refl, sym, ap, _∙_}
 use mathlib.Core.List.{List, [], _∷_, _++_, append-assoc}
 use mathlib.Core.Logic.{⊎-elim}

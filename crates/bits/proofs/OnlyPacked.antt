@@ -1,5 +1,4 @@
 -- Bytes from which fields read, with zeros after the last, are those fields' packed bytes: no other file holds them.
--- Assumes nothing.
 use mathlib.Core.Path.{_≡_, sym, ap, _∙_}
 use mathlib.Core.List.{List, [], _∷_, _++_}
 use mathlib.Core.Logic.{⊎-elim}

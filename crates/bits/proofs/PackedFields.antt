@@ -1,5 +1,4 @@
 -- The packed layout's promises: how long it is, that each field reads back, whatever follows, and that only zero bits come after the last.
--- Assumes nothing.
 use mathlib.Core.Path.{_≡_, sym, ap, _∙_}
 use mathlib.Core.List.{List, [], _∷_, _++_, append-assoc}
 use Prim.Native.Nat.{ℕ, suc, _+_, _-_, _*_, _/_, _%_, _^_, _≤_, _<_}

@@ -1,5 +1,4 @@
 -- A field that was put: what each bit is then, that no other bytes are so, what no put changes, and that it is read back.
--- Assumes nothing.
 use mathlib.Core.Path.{_≡_, sym, ap, _∙_}
 use mathlib.Core.List.{List, [], _∷_, _++_}
 use mathlib.Core.Logic.{⊎-elim}

@@ -1,5 +1,4 @@
 -- What the code's shifts and remainders of 64 bits come to: no bit of a window of 24 is lost.
--- Assumes nothing.
 use mathlib.Core.Path.{_≡_, ap, ap₂, subst, _∙_}
 use Prim.Native.Nat.{ℕ, _+_, _-_, _*_, _/_, _%_, _^_, _≤_, _<_}
 use native.Mathlib.Nat.{mod-lt, mod-le, lt-of-lt-of-le}

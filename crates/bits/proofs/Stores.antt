@@ -1,5 +1,4 @@
 -- What the code stores, three bytes with the field woven in, is the field put.
--- Assumes nothing.
 use mathlib.Core.Path.{_≡_, refl, sym, ap, _∙_}
 use mathlib.Core.List.{List, [], _∷_}
 use mathlib.Core.Logic.{⊎-elim}

@@ -1,5 +1,4 @@
 -- A field put into three bytes as one number: the bits before it, its own bits, the zeros up to the next whole byte, and the bits after them.
--- Assumes nothing.
 use mathlib.Core.Path.{_≡_, sym, ap, _∙_}
 use Prim.Native.Nat.{ℕ, suc, _+_, _-_, _*_, _/_, _%_, _^_, _≤_, _<_}
 use native.Mathlib.Nat.{mod-lt, mod-mod, mod-eq-of-lt, lt-of-lt-of-le}

@@ -7,12 +7,12 @@ use native.Mathlib.Omega.{arith}
 use Rattle.fields.specs.declared.Cursor.{Cursor}
 use Rattle.fields.specs.declared.Walk.{Walk}
 use Rattle.fields.specs.declared.Walk.the-variants.{On}
-use Rattle.fields.proofs.Ranges.{within-none}
+use Rattle.fields.proofs.Ranges.{passes-exactly}
 use Rattle.fields.proofs.Seqs.{found, ran-ok}
 use Rattle.fields.specs.declared.Field.{Field}
 use Rattle.fields.specs.declared.Field.the-variants.{Got, Bad}
 use Rattle.fields.specs.Source.{Source}
-use Rattle.fields.specs.Kinds.{Kind, bits, from-to, test}
+use Rattle.fields.specs.Kinds.{Kind, bits, from-to, InRange, test}
 use Rattle.fields.specs.Grammar.{Grammar, done, ask, bind, field, look, onField, tested}
 use Rattle.fields.specs.Run.{State, state, passed, run, Ran}
 use Rattle.fields.specs.Run.Result.{ok, no}
@@ -63,8 +63,8 @@ always-weaken P Q f (done a) h = f a h
 always-weaken P Q f (ask k r next) h = λ v t. always-weaken P Q f (next v) (h v t)
 
 pub field-below : (k : Kind) (least end : ℕ) → Always (λ v. v < end) (field k (from-to least end))
-unfolding Always field
-field-below k least end v t = within-none least end 4 v t .1
+unfolding Always field InRange
+field-below k least end v t = passes-exactly (from-to least end) v .0 t .1 .1
 
 module _ {A : Type 0} {src : Source} {p : Grammar A} {c d : Cursor} {ws bs ws₁ bs₁ : List ℕ} {val : A → ℕ} {r : Walk} {v : ℕ} (h : Ran src p c ws bs val r ws₁ bs₁) (e : r ≡ On v d) where
   -- what is true of the number of every tree is true of the number that a walk hands back

@@ -28,16 +28,6 @@ pub within-ok : (least end m v : ℕ) → least ≤ v → v < end → within lea
 unfolding within
 within-ok least end m v h k = rw (le-ltb v least h, lt-ltb v end k)
 
-pub within-none : (least end m v : ℕ) → within least end m v ≡ none → (least ≤ v) × (v < end)
-unfolding within
-within-none least end m v p = go (ltb v least) (ltb v end) refl refl p
-  where
-    go : (b c : Bool) → ltb v least ≡ b → ltb v end ≡ c → cond b (some m) (cond c none (some m)) ≡ none
-        → (least ≤ v) × (v < end)
-    go true c e d q = let z : _≡_ {A = ℕ} 0 1 = cc in absurd (omega arith)
-    go false true e d q = (ltb-false v least e, ltb-true v end d)
-    go false false e d q = let z : _≡_ {A = ℕ} 0 1 = cc in absurd (omega arith)
-
 -- ---- the three ways to meet a value
 
 -- a value is good, or refused with 4, 5 or 6, each for its own reason

@@ -4,8 +4,8 @@ use mathlib.Core.Logic.{_↔_}
 use mathlib.Core.Path.{_≡_, refl, sym, _∙_, ap, ap₂, subst}
 use mathlib.Core.List.{List, [], _∷_, _++_, flatMap}
 use mathlib.Core.Option.{Option, none, some}
-use Rattle.fields.specs.Kinds.{Kind, bits, Range, any, from-to, test}
-use Rattle.fields.proofs.Ranges.{within-ok, within-none}
+use Rattle.fields.specs.Kinds.{Kind, bits, Range, any, from-to, InRange, test}
+use Rattle.fields.proofs.Ranges.{passes-exactly, within-ok}
 use mathlib.Core.Bool.{cond}
 use native.Mathlib.Omega.{arith}
 use lib.ListN.{length}
@@ -70,8 +70,9 @@ any-exactly k = refit (field-exactly k any) (λ v h. h .0) (λ v h. (h, refl))
 
 pub from-to-exactly : (k : Kind) (least end : ℕ) → end ≤ 2 ^ bits k
     → Exactly (field k (from-to least end)) (λ v. (least ≤ v) × (v < end)) (λ v. (bits k, v) ∷ [])
+unfolding InRange
 from-to-exactly k least end h =
-    refit (field-exactly k (from-to least end)) (λ v x. within-none least end 4 v (x .1))
+    refit (field-exactly k (from-to least end)) (λ v x. passes-exactly (from-to least end) v .0 (x .1) .1)
     (λ v x. let l = x .1 in (omega arith, within-ok least end 4 v (x .0) l))
 
 -- ---- one after the other

@@ -1,5 +1,4 @@
 -- `bits::has_room` meets its contract: the tests on the way say whether the field fits.
--- Assumes nothing.
 use borrow.Author.Needs.{needs}
 use mathlib.Core.Path.{sym}
 use native.Mathlib.Omega.{arith}

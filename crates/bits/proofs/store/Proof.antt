@@ -1,5 +1,4 @@
 -- `bits::store` meets its contract: past the end `set` changes nothing.
--- Assumes nothing.
 use borrow.Author.Needs.{needs}
 use lib.Seq.{set-out}
 use denote.Ref.{now}

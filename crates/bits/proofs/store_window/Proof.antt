@@ -1,5 +1,4 @@
 -- `bits::store_window` meets its contract: three stores, one after the other.
--- Assumes nothing.
 use borrow.Author.Needs.{needs}
 use Rattle.bits.specs.Window.{withWindow}
 use Rattle.bits.proofs.store_window.Statement.{statement}

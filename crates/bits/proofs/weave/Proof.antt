@@ -1,5 +1,4 @@
 -- `bits::weave` meets its contract: no shift loses a bit, and no sum wraps.
--- Assumes nothing.
 use borrow.Author.Needs.{needs}
 use Rattle.bits.proofs.Shifts.{one-shifted-pos, head-small, weave-small, weave-is}
 use native.Mathlib.Omega.{arith}

@@ -1,5 +1,4 @@
 -- `bits::Cursor::put` meets its contract: where the field fits, what the code stores is the field put; else nothing is changed.
--- Assumes nothing.
 use borrow.Author.Needs.{needs}
 use mathlib.Core.Path.{_≡_, sym, _∙_}
 use mathlib.Core.Bool.{true}

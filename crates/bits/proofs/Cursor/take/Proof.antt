@@ -1,5 +1,4 @@
 -- `bits::Cursor::take` meets its contract: where the field fits, a shift and a remainder of three bytes take it out.
--- Assumes nothing.
 use borrow.Author.Needs.{needs}
 use mathlib.Core.Path.{_≡_, sym, _∙_}
 use mathlib.Core.Bool.{true}
