@@ -1,8 +1,10 @@
 // Reads a book and a certificate from standard input, judges them, and prints the verdict as one line.
 use libc::STDIN_FILENO;
 use libc::STDOUT_FILENO;
+use table::WORDS;
 ghost use mathlib.Core.Path.{_≡_};
 ghost use lib.ListN.{take};
+ghost use Rattle.table.specs.Places.{WORDS};
 ghost use Rattle.io.specs.Counts.{Counts};
 ghost use Rattle.verdicts.specs.Program.{judging-input};
 ghost use Rattle.verdicts.specs.Lines.{line-of};
@@ -10,9 +12,9 @@ ghost use Rattle.verdicts.specs.Lines.{line-of};
 // The line that is printed for an input, in the first bytes of `out`; the answer is its length.
 fn line_for(input: &[u8], out: &mut [u8; 91]) -> usize
     ensures counted { λ r. ⌜ Counts r (now (out .exit)) ⌝ }
-    ensures written { λ r. ⌜ take r (now (out .exit)) ≡ line-of (judging-input (now (input .entry)) 8192) ⌝ }
+    ensures written { λ r. ⌜ take r (now (out .exit)) ≡ line-of (judging-input (now (input .entry)) WORDS) ⌝ }
 {
-    let mut work = [0u64; 8192];
+    let mut work = [0u64; WORDS];
     let verdict = judging::judge_input(input, &mut work);
     verdicts::verdict_line(verdict, out)
 }

@@ -6,6 +6,7 @@ use native.Mathlib.Omega.{arith}
 use borrow.Author.Tests.{lt-ltb, le-ltb, ltb-true, ltb-false}
 use lib.Dec.{ltb}
 use mathlib.Core.Bool.{Bool, true, false}
+use Rattle.table.specs.Places.{WORDS}
 use Rattle.table.specs.Answer.{Says}
 use lib.ListN.{length, take, drop, replicate, length-drop}
 use lib.Seq.{take-all}
@@ -33,13 +34,13 @@ not-less {a} {b} n = go (ltb a b) refl
     go false e = ltb-false a b e
 
 module _ (work : List ℕ) where
-  pub left-short : length work < 8192 → work ≡ work-after work
+  pub left-short : length work < WORDS → work ≡ work-after work
   unfolding work-after
-  left-short h = rw (lt-ltb (length work) 8192 h)
+  left-short h = rw (lt-ltb (length work) WORDS h)
 
-  pub left-cleared : {after : List ℕ} → 8192 ≤ length work → after ≡ replicate (length work) 0 → after ≡ work-after work
+  pub left-cleared : {after : List ℕ} → WORDS ≤ length work → after ≡ replicate (length work) 0 → after ≡ work-after work
   unfolding work-after
-  left-cleared h e = e ∙ rw (le-ltb (length work) 8192 h)
+  left-cleared h e = e ∙ rw (le-ltb (length work) WORDS h)
 
 -- ---- the framing
 

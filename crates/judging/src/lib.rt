@@ -2,9 +2,11 @@
 use answers::Verdict;
 use answers::W;
 use layout::Opening;
+use table::WORDS;
 ghost use mathlib.Core.Path.{_≡_};
 ghost use Prim.Native.Nat.{_≤_, _<_};
 ghost use lib.ListN.{length, replicate};
+ghost use Rattle.table.specs.Places.{WORDS};
 ghost use Rattle.table.specs.Answer.{Says};
 ghost use Rattle.answers.specs.Numbers.{paper-verdict};
 ghost use Rattle.layout.specs.Openings.{Beside};
@@ -14,7 +16,7 @@ ghost use Rattle.judging.specs.Judged.{Judged, JudgedInput};
 
 // The certificate beside its good book: read to its end, then judged.
 fn judge_certificate(book: &[u8], counts: &[u8], certificate: &[u8], work: &mut [u64]) -> Verdict
-    requires { ⌜ Beside (now book) (now counts) × (length (now certificate) ≤ 32768) × (8192 ≤ length (now work)) ⌝ }
+    requires { ⌜ Beside (now book) (now counts) × (length (now certificate) ≤ 32768) × (WORDS ≤ length (now work)) ⌝ }
     ensures answered { λ r. ⌜ paper-verdict r ≡ judging-certificate (now (book .entry)) (now (certificate .entry)) ⌝ }
     ensures lent { λ _. ⌜ length (now (work .exit)) ≡ length (now (work .entry)) ⌝ }
 {
@@ -26,7 +28,7 @@ fn judge_certificate(book: &[u8], counts: &[u8], certificate: &[u8], work: &mut 
 
 // Both files: their lengths, the whole book, and the certificate beside it.
 fn judge_files(book: &[u8], certificate: &[u8], work: &mut [u64]) -> Verdict
-    requires { ⌜ 8192 ≤ length (now work) ⌝ }
+    requires { ⌜ WORDS ≤ length (now work) ⌝ }
     ensures answered { λ r. ⌜ paper-verdict r ≡ judging-files (now (book .entry)) (now (certificate .entry)) ⌝ }
     ensures lent { λ _. ⌜ length (now (work .exit)) ≡ length (now (work .entry)) ⌝ }
 {
@@ -45,9 +47,9 @@ fn judge_files(book: &[u8], certificate: &[u8], work: &mut [u64]) -> Verdict
 
 // Whether a work table has fewer than 8,192 numbers.
 fn is_short(work: &[u64]) -> bool
-    ensures { λ r. ⌜ Says (length (now (work .entry)) < 8192) r ⌝ }
+    ensures { λ r. ⌜ Says (length (now (work .entry)) < WORDS) r ⌝ }
 {
-    work.len() < 8192
+    work.len() < WORDS
 }
 
 // Refusal 1. The work table is not touched.
@@ -85,7 +87,7 @@ fn book_length(input: &[u8]) -> usize
 
 // The framing's refusals, which speak of neither file, then both files that the input holds.
 fn judge_framed(input: &[u8], work: &mut [u64]) -> Verdict
-    requires { ⌜ 8192 ≤ length (now work) ⌝ }
+    requires { ⌜ WORDS ≤ length (now work) ⌝ }
     ensures answered { λ r. ⌜ paper-verdict r ≡ judging-framed (now (input .entry)) ⌝ }
     ensures lent { λ _. ⌜ length (now (work .exit)) ≡ length (now (work .entry)) ⌝ }
 {

@@ -6,6 +6,7 @@ use mathlib.Core.List.{List}
 use native.Mathlib.Omega.{arith}
 use native.Mathlib.Decide.{decLe}
 use lib.ListN.{length}
+use Rattle.table.specs.Places.{WORDS}
 use Rattle.bits.specs.Bits.{Bytes}
 use Rattle.bits.specs.Packed.{packed}
 use Rattle.patterns.specs.Certificate.{Certificate}
@@ -68,7 +69,7 @@ module _ (b : RuleBook) (fits : BookFits b) (certificate : List ℕ) where
 
 module _ (book certificate : List ℕ) (size : ℕ) where
   -- with room in the table, and two files that keep layout and limits, the trees are judged
-  pub trees-judged : 8192 ≤ size → (b : RuleBook) → BookFile book b → (K : Certificate Exp Pair Pace)
+  pub trees-judged : WORDS ≤ size → (b : RuleBook) → BookFile book b → (K : Certificate Exp Pair Pace)
       → CertificateFile b certificate K → judging book certificate size ≡ judge one (b .rules) K
   trees-judged t b f K g =
       table-enough book certificate size t
@@ -112,14 +113,14 @@ module _ (book certificate : List ℕ) (is-bytes : Bytes book) (are-bytes : Byte
 -- how a verdict comes about: a refusal before any check, or the judge over the trees of both files
 data Way (book certificate : List ℕ) (size : ℕ) : Type 0 where
   refused : (r : Refusal) → FirstRefusal book certificate size r → Way book certificate size
-  judged : 8192 ≤ size → (b : RuleBook) → BookFile book b → (K : Certificate Exp Pair Pace) → CertificateFile b certificate K
+  judged : WORDS ≤ size → (b : RuleBook) → BookFile book b → (K : Certificate Exp Pair Pace) → CertificateFile b certificate K
       → Way book certificate size
 
 module _ (book certificate : List ℕ) (is-bytes : Bytes book) (are-bytes : Bytes certificate) (size : ℕ) where
   way : Way book certificate size
-  way = table (decLe 8192 size) (decLe (length book) 16384) (decLe (length certificate) 32768)
+  way = table (decLe WORDS size) (decLe (length book) 16384) (decLe (length certificate) 32768)
     where
-      certificate-way : 8192 ≤ size → (b : RuleBook) → BookFile book b → length certificate ≤ 32768
+      certificate-way : WORDS ≤ size → (b : RuleBook) → BookFile book b → length certificate ≤ 32768
           → (o : Opened (Certificate Exp Pair Pace)) → open-certificate b certificate ≡ o → Way book certificate size
       certificate-way t b f m (good K fs) e =
           judged t b f K (certificate-file b (f .limits) certificate are-bytes m K fs e)
@@ -127,14 +128,14 @@ module _ (book certificate : List ℕ) (is-bytes : Bytes book) (are-bytes : Byte
           let x = certificate-first-fault b certificate are-bytes m r .0 e in
           refused r (bad-certificate t b f m (x .number) (x .place) (x .why) (x .told))
 
-      book-way : 8192 ≤ size → length book ≤ 16384 → length certificate ≤ 32768 → (o : Opened RuleBook) → open-book book ≡ o
+      book-way : WORDS ≤ size → length book ≤ 16384 → length certificate ≤ 32768 → (o : Opened RuleBook) → open-book book ≡ o
           → Way book certificate size
       book-way t n m (good b fs) e =
           certificate-way t b (book-file book is-bytes n b fs e) m (open-certificate b certificate) refl
       book-way t n m (bad r) e =
           let x = book-first-fault book is-bytes n r .0 e in refused r (bad-book t n m (x .number) (x .place) (x .why) (x .told))
 
-      table : Dec (8192 ≤ size) → Dec (length book ≤ 16384) → Dec (length certificate ≤ 32768) → Way book certificate size
+      table : Dec (WORDS ≤ size) → Dec (length book ≤ 16384) → Dec (length certificate ≤ 32768) → Way book certificate size
       table (no t) n m = refused _ (short-table (omega arith) refl)
       table (yes t) (no n) m = refused _ (long-book t (omega arith) refl)
       table (yes t) (yes n) (no m) = refused _ (long-certificate t n (omega arith) refl)

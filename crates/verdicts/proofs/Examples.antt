@@ -3,6 +3,7 @@ use mathlib.Core.Path.{_≡_, refl}
 use mathlib.Core.List.{List, [], _∷_}
 use Prim.Native.Nat.{ℕ}
 use lib.ListN.{replicate}
+use Rattle.table.specs.Places.{WORDS}
 use Rattle.answers.specs.Carried.{of-a-field, of-a-part, carried}
 use Rattle.patterns.specs.Refusal.{closing-place}
 use Rattle.patterns.specs.Judge.{accept, refuse}
@@ -18,20 +19,20 @@ unfolding judging-input
 short-table-input-case input = refl
 
 -- 49,155 bytes are refused with 2, also where they say that the book has 65,535
-pub long-input-case : judging-input (replicate 49155 255) 8192 ≡ refuse (record { number = 2; w = 4; a = 0; b = 0 })
+pub long-input-case : judging-input (replicate 49155 255) WORDS ≡ refuse (record { number = 2; w = 4; a = 0; b = 0 })
 unfolding judging-input judging-framed book-length
 long-input-case = refl
 
 -- no byte, one byte, and a book that lacks a byte are refused with 3
-pub empty-input-case : judging-input [] 8192 ≡ refuse (record { number = 3; w = 4; a = 0; b = 0 })
+pub empty-input-case : judging-input [] WORDS ≡ refuse (record { number = 3; w = 4; a = 0; b = 0 })
 unfolding judging-input judging-framed book-length
 empty-input-case = refl
 
-pub one-byte-case : judging-input (0 ∷ []) 8192 ≡ refuse (record { number = 3; w = 4; a = 0; b = 0 })
+pub one-byte-case : judging-input (0 ∷ []) WORDS ≡ refuse (record { number = 3; w = 4; a = 0; b = 0 })
 unfolding judging-input judging-framed book-length
 one-byte-case = refl
 
-pub cut-input-case : judging-input (0 ∷ 2 ∷ 0 ∷ []) 8192 ≡ refuse (record { number = 3; w = 4; a = 0; b = 0 })
+pub cut-input-case : judging-input (0 ∷ 2 ∷ 0 ∷ []) WORDS ≡ refuse (record { number = 3; w = 4; a = 0; b = 0 })
 unfolding judging-input judging-framed book-length
 cut-input-case = refl
 

@@ -8,6 +8,7 @@ use native.Mathlib.Decide.{decLe}
 use borrow.Author.Tests.{lt-ltb, le-ltb}
 use lib.ListN.{length, take, drop, getD, length-append, take-append-drop, List·getD-eq-default, List·getD-append}
 use lib.Seq.{length-take-le, take-append-seam, drop-append-seam, drop-drop, getD-drop}
+use Rattle.table.specs.Places.{WORDS}
 use Rattle.bits.specs.Bits.{Bytes}
 use Rattle.patterns.specs.First.{Pace}
 use Rattle.patterns.specs.Judge.{Verdict, accept}
@@ -20,13 +21,13 @@ use Rattle.verdicts.proofs.Demands.{acceptable-accepted, accepts-exactl
 -- ---- the four ways
 
 module _ (input : List ℕ) where
-  pub input-unjudged : (size : ℕ) → size < 8192 → judging-input input size ≡ refusal-one
+  pub input-unjudged : (size : ℕ) → size < WORDS → judging-input input size ≡ refusal-one
   unfolding judging-input
-  input-unjudged size h = rw (lt-ltb size 8192 h)
+  input-unjudged size h = rw (lt-ltb size WORDS h)
 
-  pub input-judged : (size : ℕ) → 8192 ≤ size → judging-input input size ≡ judging-framed input
+  pub input-judged : (size : ℕ) → WORDS ≤ size → judging-input input size ≡ judging-framed input
   unfolding judging-input
-  input-judged size h = rw (le-ltb size 8192 h)
+  input-judged size h = rw (le-ltb size WORDS h)
 
   pub input-long : 49154 < length input → judging-framed input ≡ unframed 2
   unfolding judging-framed
@@ -103,9 +104,9 @@ whole-framed (high ∷ low ∷ rest) bytes h =
 
 module _ (input : List ℕ) (bytes : Bytes input) (size : ℕ) where
   input-verdict : InputVerdict input size (judging-input input size)
-  input-verdict = go (decLe 8192 size) (decLe (length input) 49154) (decLe (2 + book-length input) (length input))
+  input-verdict = go (decLe WORDS size) (decLe (length input) 49154) (decLe (2 + book-length input) (length input))
     where
-      go : Dec (8192 ≤ size) → Dec (length input ≤ 49154) → Dec (2 + book-length input ≤ length input)
+      go : Dec (WORDS ≤ size) → Dec (length input ≤ 49154) → Dec (2 + book-length input ≤ length input)
           → InputVerdict input size (judging-input input size)
       go (no t) j d = short-table (omega arith) (input-unjudged input size (omega arith))
       go (yes t) (no k) d = too-long t (omega arith) (input-judged input size t ∙ input-long input (omega arith))

@@ -6,6 +6,7 @@ use mathlib.Core.Bool.{Bool, true, false, cond}
 use native.Mathlib.Omega.{arith}
 use lib.ListN.{length}
 use lib.Dec.{ltb}
+use Rattle.table.specs.Places.{WORDS}
 use Rattle.answers.specs.Numbers.{paper-refusal, paper-answer}
 use Rattle.patterns.specs.Certificate.{Certificate}
 use Rattle.patterns.specs.Refusal.{Refusal, book-place, certificate-place}
@@ -68,7 +69,7 @@ judging-files-in-table book certificate =
     (files book certificate))
 
 table-in-table : (size : ℕ) (v : Verdict Pace) → VerdictInTable v → VerdictInTable (with-table size v)
-table-in-table size v h = either (ltb size 8192) _ v (refused _ short-table-in-table) h
+table-in-table size v h = either (ltb size WORDS) _ v (refused _ short-table-in-table) h
 
 pub judging-in-table : (book certificate : List ℕ) (size : ℕ) → VerdictInTable (judging book certificate size)
 unfolding judging

@@ -4,6 +4,7 @@ use mathlib.Core.Path.{_≡_, refl}
 use mathlib.Core.List.{List}
 use borrow.Author.Tests.{lt-ltb, le-ltb}
 use lib.ListN.{length}
+use Rattle.table.specs.Places.{WORDS}
 use Rattle.answers.specs.Carried.{refusal-at}
 use Rattle.patterns.specs.Certificate.{Certificate}
 use Rattle.patterns.specs.Refusal.{Refusal, book-place, certificate-place}
@@ -21,13 +22,13 @@ module _ (book certificate : List ℕ) where
   unfolding judging
   table-case = refl
 
-  pub table-short : (size : ℕ) → size < 8192 → judging book certificate size ≡ refusal-one
+  pub table-short : (size : ℕ) → size < WORDS → judging book certificate size ≡ refusal-one
   unfolding judging
-  table-short size h = rw (lt-ltb size 8192 h)
+  table-short size h = rw (lt-ltb size WORDS h)
 
-  pub table-enough : (size : ℕ) → 8192 ≤ size → judging book certificate size ≡ judging-files book certificate
+  pub table-enough : (size : ℕ) → WORDS ≤ size → judging book certificate size ≡ judging-files book certificate
   unfolding judging
-  table-enough size h = rw (le-ltb size 8192 h)
+  table-enough size h = rw (le-ltb size WORDS h)
 
   -- ---- the lengths
 

@@ -9,6 +9,7 @@ use native.Mathlib.Omega.{arith}
 use native.Mathlib.Decide.{decLe}
 use borrow.Author.Tests.{lt-ltb, le-ltb}
 use lib.ListN.{length, replicate}
+use Rattle.table.specs.Places.{WORDS}
 use Rattle.answers.specs.Carried.{refusal-at}
 use Rattle.fields.specs.Source.{from, start}
 use Rattle.fields.specs.Grammar.{Grammar, Outcome, outcome, trace}
@@ -116,23 +117,23 @@ framed-never-one input = go (decLe (length input) 49154) (decLe (2 + book-length
     go (yes k) (yes h) q = files-never-one _ _ (sym (input-whole input k h) ∙ q)
 
 module _ (v : Verdict Pace) (never : v ≢ refusal-one) where
-  one-exactly-when : (size : ℕ) → (with-table size v ≡ refusal-one) ↔ (size < 8192)
-  one-exactly-when size = (λ e. go e (decLe 8192 size), λ h. rw (lt-ltb size 8192 h))
+  one-exactly-when : (size : ℕ) → (with-table size v ≡ refusal-one) ↔ (size < WORDS)
+  one-exactly-when size = (λ e. go e (decLe WORDS size), λ h. rw (lt-ltb size WORDS h))
     where
-      go : with-table size v ≡ refusal-one → Dec (8192 ≤ size) → size < 8192
-      go e (yes h) = absurd (never (sym (rw (le-ltb size 8192 h)) ∙ e))
+      go : with-table size v ≡ refusal-one → Dec (WORDS ≤ size) → size < WORDS
+      go e (yes h) = absurd (never (sym (rw (le-ltb size WORDS h)) ∙ e))
       go e (no h) = omega arith
 
   kept : (work : List ℕ) → with-table (length work) v ≡ refusal-one → work-after work ≡ work
   unfolding work-after
-  kept work e = rw (lt-ltb (length work) 8192 (one-exactly-when (length work) .0 e))
+  kept work e = rw (lt-ltb (length work) WORDS (one-exactly-when (length work) .0 e))
 
   cleared : (work : List ℕ) → with-table (length work) v ≢ refusal-one → work-after work ≡ replicate (length work) 0
   unfolding work-after
-  cleared work n = go (decLe 8192 (length work))
+  cleared work n = go (decLe WORDS (length work))
     where
-      go : Dec (8192 ≤ length work) → work-after work ≡ replicate (length work) 0
-      go (yes h) = rw (le-ltb (length work) 8192 h)
+      go : Dec (WORDS ≤ length work) → work-after work ≡ replicate (length work) 0
+      go (yes h) = rw (le-ltb (length work) WORDS h)
       go (no h) = absurd (n (one-exactly-when (length work) .1 (omega arith)))
 
 -- ---- the judge of two files
@@ -140,7 +141,7 @@ module _ (v : Verdict Pace) (never : v ≢ refusal-one) where
 module _ (book certificate : List ℕ) where
   -- Refusal 1 is given exactly when the work table has fewer than 8,192 numbers.
   pub refusal-one-exactly-when : (size : ℕ)
-      → (judging book certificate size ≡ refusal-one) ↔ (size < 8192)
+      → (judging book certificate size ≡ refusal-one) ↔ (size < WORDS)
   unfolding judging
   refusal-one-exactly-when size = one-exactly-when _ (files-never-one book certificate) size
 
@@ -160,7 +161,7 @@ module _ (book certificate : List ℕ) where
 
 module _ (input : List ℕ) where
   pub input-refusal-one-exactly-when : (size : ℕ)
-      → (judging-input input size ≡ refusal-one) ↔ (size < 8192)
+      → (judging-input input size ≡ refusal-one) ↔ (size < WORDS)
   unfolding judging-input
   input-refusal-one-exactly-when size = one-exactly-when _ (framed-never-one input) size
 

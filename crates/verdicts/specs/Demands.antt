@@ -4,6 +4,7 @@ use mathlib.Core.Path.{_≡_}
 use mathlib.Core.List.{List, [], _∷_, map}
 use mathlib.Core.Option.{some}
 use lib.ListN.{length, getElem?}
+use Rattle.table.specs.Places.{WORDS}
 use Rattle.answers.specs.Carried.{refusal-at}
 use Rattle.bits.specs.Packed.{packed}
 use Rattle.patterns.specs.Term.{Filling, fill}
@@ -40,7 +41,7 @@ pub record CertificateFile (b : RuleBook) (certificate : List ℕ) (K : Certific
 -- both files keep layout and limits, every check holds, no compared side has more than 1,024 nodes; and the answer is the closing's
 -- own line, k and α
 pub record Acceptable (book certificate : List ℕ) (size line : ℕ) (pace : Pace) : Type 0 where
-  pub table : 8192 ≤ size
+  pub table : WORDS ≤ size
   pub rule-book : RuleBook
   pub book-file : BookFile book rule-book
   pub tree : Certificate Exp Pair Pace
@@ -52,17 +53,17 @@ pub record Acceptable (book certificate : List ℕ) (size line : ℕ) (pace : Pa
 
 -- 01: "Order: 1; 2 (book first); the whole book field by field; the whole certificate; then lines from 0 up; then closing."
 pub data FirstRefusal (book certificate : List ℕ) (size : ℕ) (r : Refusal) : Type 0 where
-  short-table : size < 8192 → r ≡ refusal-at 1 neither-place 0 → FirstRefusal book certificate size r
-  long-book : 8192 ≤ size → 16384 < length book → r ≡ refusal-at 2 book-place 0 → FirstRefusal book certificate size r
-  long-certificate : 8192 ≤ size → length book ≤ 16384 → 32768 < length certificate → r ≡ refusal-at 2 certificate-place 0
+  short-table : size < WORDS → r ≡ refusal-at 1 neither-place 0 → FirstRefusal book certificate size r
+  long-book : WORDS ≤ size → 16384 < length book → r ≡ refusal-at 2 book-place 0 → FirstRefusal book certificate size r
+  long-certificate : WORDS ≤ size → length book ≤ 16384 → 32768 < length certificate → r ≡ refusal-at 2 certificate-place 0
       → FirstRefusal book certificate size r
   -- 3 to 7, as the fields tell that stand in the file (`Fault`)
-  bad-book : 8192 ≤ size → length book ≤ 16384 → length certificate ≤ 32768 → (number place : ℕ) → Fault book a-book number place
+  bad-book : WORDS ≤ size → length book ≤ 16384 → length certificate ≤ 32768 → (number place : ℕ) → Fault book a-book number place
       → r ≡ refusal-at number book-place place → FirstRefusal book certificate size r
-  bad-certificate : 8192 ≤ size → (b : RuleBook) → BookFile book b → length certificate ≤ 32768 → (number place : ℕ)
+  bad-certificate : WORDS ≤ size → (b : RuleBook) → BookFile book b → length certificate ≤ 32768 → (number place : ℕ)
       → Fault certificate (certificate-of b) number place → r ≡ refusal-at number certificate-place place
       → FirstRefusal book certificate size r
-  broken-check : 8192 ≤ size → (b : RuleBook) → BookFile book b → (K : Certificate Exp Pair Pace)
+  broken-check : WORDS ≤ size → (b : RuleBook) → BookFile book b → (K : Certificate Exp Pair Pace)
       → CertificateFile b certificate K → FirstBroken one (b .rules) K r → FirstRefusal book certificate size r
 
 -- ---- demand 3

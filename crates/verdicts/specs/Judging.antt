@@ -5,6 +5,7 @@ use mathlib.Core.List.{List}
 use mathlib.Core.Bool.{cond}
 use lib.ListN.{length, replicate}
 use lib.Dec.{ltb}
+use Rattle.table.specs.Places.{WORDS}
 use Rattle.answers.specs.Carried.{refusal-at}
 use Rattle.patterns.specs.Refusal.{book-place, certificate-place, neither-place}
 use Rattle.patterns.specs.First.{Pace, one}
@@ -28,11 +29,11 @@ refusal-one = refuse (refusal-at 1 neither-place 0)
 
 -- 01, 1: "the work table has fewer than 8,192 64-bit numbers"; `size` is how many it has. It stands before all else.
 abbrev pub with-table : ℕ → Verdict Pace → Verdict Pace
-with-table size rest = cond (ltb size 8192) refusal-one rest
+with-table size rest = cond (ltb size WORDS) refusal-one rest
 
 unfoldable pub judging : List ℕ → List ℕ → ℕ → Verdict Pace
 judging book certificate size = with-table size (judging-files book certificate)
 
 -- 01: "The work table is all zeros after every call but refusal 1, which doesn't touch it."
 unfoldable pub work-after : List ℕ → List ℕ
-work-after work = cond (ltb (length work) 8192) work (replicate (length work) 0)
+work-after work = cond (ltb (length work) WORDS) work (replicate (length work) 0)

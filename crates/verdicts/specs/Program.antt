@@ -5,6 +5,7 @@ use mathlib.Core.List.{List, _∷_, _++_}
 use mathlib.Core.Bool.{cond}
 use lib.ListN.{length, take, drop, getD}
 use lib.Dec.{ltb}
+use Rattle.table.specs.Places.{WORDS}
 use Rattle.answers.specs.Carried.{refusal-at}
 use Rattle.patterns.specs.Refusal.{neither-place}
 use Rattle.patterns.specs.First.{Pace}
@@ -43,11 +44,11 @@ unfoldable pub framing : List ℕ → List ℕ → List ℕ
 framing book certificate = length book / 256 ∷ length book % 256 ∷ book ++ certificate
 
 pub data InputVerdict (input : List ℕ) (size : ℕ) (v : Verdict Pace) : Type 0 where
-  short-table : size < 8192 → v ≡ refusal-one → InputVerdict input size v
-  too-long : 8192 ≤ size → 49154 < length input → v ≡ unframed 2 → InputVerdict input size v
-  cut-short : 8192 ≤ size → length input ≤ 49154 → length input < 2 + book-length input → v ≡ unframed 3
+  short-table : size < WORDS → v ≡ refusal-one → InputVerdict input size v
+  too-long : WORDS ≤ size → 49154 < length input → v ≡ unframed 2 → InputVerdict input size v
+  cut-short : WORDS ≤ size → length input ≤ 49154 → length input < 2 + book-length input → v ≡ unframed 3
       → InputVerdict input size v
-  framed : 8192 ≤ size → length input ≤ 49154 → (book certificate : List ℕ) → input ≡ framing book certificate
+  framed : WORDS ≤ size → length input ≤ 49154 → (book certificate : List ℕ) → input ≡ framing book certificate
       → v ≡ judging book certificate size → InputVerdict input size v
 
 -- an input that is to be accepted

@@ -2,6 +2,7 @@
 use Prim.Native.Nat.{ℕ}
 use mathlib.Core.Path.{_≡_}
 use mathlib.Core.List.{List, [], _∷_, _++_}
+use Rattle.table.specs.Places.{WORDS}
 use Rattle.bits.specs.Packed.{packed}
 use Rattle.patterns.specs.Term.{fill}
 use Rattle.patterns.specs.Edition.{reindex, form}
@@ -33,8 +34,8 @@ unfoldable pub True : Case → Type 0
 True (has-form t u) = form one t ≡ u
 True (is t u) = t ≡ u
 True (good ls) = Lines one W [] ls
-True (gets book certificate v) = judging book certificate 8192 ≡ v
-True (prints input v line) = (judging-input input 8192 ≡ v) × (line-of v ≡ line)
+True (gets book certificate v) = judging book certificate WORDS ≡ v
+True (prints input v line) = (judging-input input WORDS ≡ v) × (line-of v ≡ line)
 
 -- the book W in bytes: the arities of s, 0, gt, add and while, and the rules
 abbrev pub W-file : List ℕ
