@@ -1,0 +1,205 @@
+//! Sides in normal form, built from slices of nodes.
+
+use crate::filling::Filling;
+use crate::node::{self, NO_POWER, VARIABLES};
+use crate::store::{Span, Store, CHUNK, TERM_NODES};
+
+/// "A side whose normal form has more than 1,024 nodes is refused with 16".
+const SIDE_NODES: usize = 1_024;
+/// A side is tested after each variable and at its end. Until then it can grow by the
+/// nodes of its pattern, by a term that is put for a variable, and by the rest of a chunk.
+const ROOM: usize = SIDE_NODES + 2 * TERM_NODES + CHUNK;
+
+/// The index pair that changes nothing.
+pub const AS_IT_IS: u64 = node::pair(1, 0);
+
+/// Where a side is built.
+pub struct Side {
+    nodes: Box<[u64; ROOM]>,
+    length: usize,
+}
+
+impl Side {
+    pub fn new() -> Side {
+        Side { nodes: Box::new([0; ROOM]), length: 0 }
+    }
+
+    /// The normal form of a term reindexed by a pair and filled; nothing if it is too
+    /// large. A term that stays as it is isn't copied.
+    pub fn instance<'a>(
+        &'a mut self,
+        store: &'a Store,
+        term: Span,
+        pair: u64,
+        filling: &Filling,
+    ) -> Option<&'a [u64]> {
+        let pattern = store.term(term);
+        if pair != AS_IT_IS {
+            self.build::<true>(&store.nodes, pattern, pair, filling)
+        } else if filling.is_empty() {
+            Some(pattern)
+        } else {
+            self.build::<false>(&store.nodes, pattern, pair, filling)
+        }
+    }
+
+    /// Node by node. "drop the zero powers and add up neighbours of the same symbol": a
+    /// power's neighbour below is always the next node.
+    fn build<const REINDEXED: bool>(
+        &mut self,
+        nodes: &[u64],
+        pattern: &[u64],
+        pair: u64,
+        filling: &Filling,
+    ) -> Option<&[u64]> {
+        self.length = 0;
+        // The name of the power built last, if nothing stands behind it.
+        let mut above = NO_POWER;
+        for node in pattern {
+            let node = *node;
+            if node < VARIABLES {
+                match filling.term(node) {
+                    Some(term) => self.put_term(nodes, term, above),
+                    None => self.put(node),
+                }
+                above = NO_POWER;
+                if self.length > SIDE_NODES {
+                    return None;
+                }
+            } else if REINDEXED && node::is_power(node) {
+                above = self.put_power(node::reindexed(node, pair), above);
+            } else {
+                self.put(node);
+                above = node::power_name(node);
+            }
+        }
+        (self.length <= SIDE_NODES).then(|| &self.nodes[..self.length])
+    }
+
+    #[inline(always)]
+    fn put(&mut self, node: u64) {
+        self.nodes[self.length] = node;
+        self.length += 1;
+    }
+
+    /// Puts a power, and answers the name of the power that stands last then.
+    #[inline(always)]
+    fn put_power(&mut self, power: u64, above: u64) -> u64 {
+        let exponents = node::exponents(power);
+        if exponents == 0 {
+            return above;
+        }
+        if node::name(power) == above {
+            self.nodes[self.length - 1] += exponents;
+        } else {
+            self.put(power);
+        }
+        node::name(power)
+    }
+
+    /// Puts a whole term of a filling. It is normal, so only its root can be like the
+    /// power above it.
+    #[inline(always)]
+    fn put_term(&mut self, nodes: &[u64], term: Span, above: u64) {
+        let (mut start, mut length) = (term.start as usize, term.length as usize);
+        let root = nodes[start];
+        if node::name(root) == above {
+            self.nodes[self.length - 1] += node::exponents(root);
+            (start, length) = (start + 1, length - 1);
+        }
+        self.copy(&nodes[start..], length);
+    }
+
+    /// Short terms are copied as a whole chunk, of which only a part counts.
+    #[inline(always)]
+    fn copy(&mut self, from: &[u64], length: usize) {
+        let to = &mut self.nodes[self.length..];
+        match (to.first_chunk_mut::<CHUNK>(), from.first_chunk::<CHUNK>()) {
+            (Some(to), Some(from)) if length <= CHUNK => *to = *from,
+            _ => to[..length].copy_from_slice(&from[..length]),
+        }
+        self.length += length;
+    }
+}
+
+#[cfg(test)]
+mod tests {
+    use super::*;
+    use crate::node::{pair, power, symbol};
+    use crate::store::Entry;
+
+    const S: u64 = 1;
+    const R: u64 = 2;
+    const F: u64 = 3;
+    const X: u64 = 0;
+    const Y: u64 = 1;
+
+    fn put(store: &mut Store, term: &[u64]) -> Span {
+        let start = store.filled;
+        store.nodes[start..][..term.len()].copy_from_slice(term);
+        store.filled += term.len();
+        Span { start: start as u32, length: term.len() as u32 }
+    }
+
+    /// An instance, by an index pair and the terms of x and y.
+    fn instance(term: &[u64], (i, j): (u64, u64), terms: &[&[u64]]) -> Option<Vec<u64>> {
+        let (mut store, mut filling) = (Store::new(), Filling::new());
+        let entries: Vec<Entry> = (0..)
+            .zip(terms)
+            .map(|(variable, term)| Entry { variable, term: put(&mut store, term) })
+            .collect();
+        filling.set(&entries);
+        let term = put(&mut store, term);
+        Side::new().instance(&store, term, pair(i, j), &filling).map(<[u64]>::to_vec)
+    }
+
+    /// The cases 1 to 5 of the document's table. In the first, the lower power comes by a
+    /// filling, since terms in files are normal.
+    #[test]
+    fn the_cases_of_the_table() {
+        let merged = instance(&[power(S, 1, 0), Y], (1, 0), &[&[X], &[power(S, 1, 1), X]]);
+        assert_eq!(merged, Some(vec![power(S, 2, 1), X]));
+        assert_eq!(instance(&[power(S, 1, 0), X], (0, 0), &[]), Some(vec![X]));
+        let three = [power(S, 0, 1), power(R, 1, 0), power(S, 0, 1), X];
+        assert_eq!(instance(&three, (0, 0), &[]), Some(vec![power(S, 0, 2), X]));
+        let swapped = instance(&[symbol(F), X, Y], (1, 0), &[&[Y], &[X]]);
+        assert_eq!(swapped, Some(vec![symbol(F), Y, X]));
+        let reindexed = instance(&[power(S, 2, 1), X], (3, 2), &[]);
+        assert_eq!(reindexed, Some(vec![power(S, 6, 5), X]));
+    }
+
+    /// "the filling's own terms are not reindexed"
+    #[test]
+    fn fillings_enter_as_they_are() {
+        let found = instance(&[power(S, 1, 0), X], (2, 3), &[&[power(R, 1, 1), Y]]);
+        assert_eq!(found, Some(vec![power(S, 2, 3), power(R, 1, 1), Y]));
+        let dropped = instance(&[power(S, 1, 0), X], (0, 0), &[&[power(R, 1, 0), Y]]);
+        assert_eq!(dropped, Some(vec![power(R, 1, 0), Y]));
+    }
+
+    #[test]
+    fn the_largest_numbers_have_room() {
+        const MOST: u64 = 4_095;
+        let like = power(S, MOST, MOST);
+        let found = instance(&[like, X], (MOST, MOST), &[&[like, Y]]);
+        let largest = MOST * MOST + MOST;
+        assert_eq!(found, Some(vec![power(S, largest, largest + MOST), Y]));
+        let mut chain = [power(S, 0, MOST), power(R, 1, 0)].repeat(127);
+        chain.extend([power(S, 0, MOST), X]);
+        let found = instance(&chain, (0, 0), &[&[like, Y]]);
+        assert_eq!(found, Some(vec![power(S, MOST, 129 * MOST), Y]));
+    }
+
+    #[test]
+    fn a_side_has_1024_nodes_at_most() {
+        let mut pattern = vec![symbol(F); 4];
+        pattern.extend([X; 5]);
+        let size = |length: usize| {
+            let term: Vec<u64> = (0..length as u64).map(|n| power(n, 1, 1)).collect();
+            instance(&pattern, (1, 0), &[&term]).map(|side| side.len())
+        };
+        assert_eq!(size(204), Some(1_024));
+        assert_eq!(size(205), None);
+        assert_eq!(size(256), None);
+    }
+}
