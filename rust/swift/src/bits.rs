@@ -32,16 +32,27 @@ impl<'a> Bits<'a> {
         self.end - self.at
     }
 
-    /// The bits from here on, the next one highest: 57 of them at least, with zeros
-    /// behind the end of the file.
+    /// The bits from here on, the next one highest: 57 of them at least. Nothing if eight
+    /// bytes don't follow.
+    #[inline(always)]
+    pub fn whole_window(&self) -> Option<u64> {
+        let byte = (self.at >> 3) as usize;
+        let eight = self.bytes.get(byte..byte + 8)?;
+        Some(u64::from_be_bytes(eight.try_into().expect("eight bytes")) << (self.at & 7))
+    }
+
+    /// The same, with zeros behind the end of the file.
     #[inline(always)]
     pub fn window(&self) -> u64 {
-        let byte = (self.at >> 3) as usize;
-        let word = match self.bytes.get(byte..byte + 8) {
-            Some(eight) => u64::from_be_bytes(eight.try_into().expect("eight bytes")),
-            None => last_bytes(&self.bytes[byte..]),
-        };
-        word << (self.at & 7)
+        self.whole_window().unwrap_or_else(|| self.last_window())
+    }
+
+    #[cold]
+    fn last_window(&self) -> u64 {
+        let bytes = &self.bytes[(self.at >> 3) as usize..];
+        let mut eight = [0; 8];
+        eight[..bytes.len()].copy_from_slice(bytes);
+        u64::from_be_bytes(eight) << (self.at & 7)
     }
 
     /// Takes a field: 3 if it "begins or runs past the end".
@@ -73,14 +84,6 @@ impl<'a> Bits<'a> {
             false => Fault::new(7, self.at),
         }
     }
-}
-
-/// Fewer than eight bytes, with zeros behind them.
-#[cold]
-fn last_bytes(bytes: &[u8]) -> u64 {
-    let mut eight = [0; 8];
-    eight[..bytes.len()].copy_from_slice(bytes);
-    u64::from_be_bytes(eight)
 }
 
 #[cfg(test)]

@@ -16,12 +16,11 @@ pub const AS_IT_IS: u64 = node::pair(1, 0);
 /// Where a side is built.
 pub struct Side {
     nodes: Box<[u64; ROOM]>,
-    length: usize,
 }
 
 impl Side {
     pub fn new() -> Side {
-        Side { nodes: Box::new([0; ROOM]), length: 0 }
+        Side { nodes: Box::new([0; ROOM]) }
     }
 
     /// The normal form of a term reindexed by a pair and filled; nothing if it is too
@@ -34,51 +33,58 @@ impl Side {
         filling: &Filling,
     ) -> Option<&'a [u64]> {
         let pattern = store.term(term);
-        if pair != AS_IT_IS {
-            self.build::<true>(&store.nodes, pattern, pair, filling)
+        let length = if pair != AS_IT_IS {
+            build::<true>(&mut self.nodes, &store.nodes, pattern, pair, filling)
         } else if filling.is_empty() {
-            Some(pattern)
+            return Some(pattern);
         } else {
-            self.build::<false>(&store.nodes, pattern, pair, filling)
-        }
+            build::<false>(&mut self.nodes, &store.nodes, pattern, pair, filling)
+        };
+        self.nodes[..SIDE_NODES].get(..length)
     }
+}
 
-    /// Node by node. "drop the zero powers and add up neighbours of the same symbol": a
-    /// power's neighbour below is always the next node.
-    fn build<const REINDEXED: bool>(
-        &mut self,
-        nodes: &[u64],
-        pattern: &[u64],
-        pair: u64,
-        filling: &Filling,
-    ) -> Option<&[u64]> {
-        self.length = 0;
-        // The name of the power built last, if nothing stands behind it.
-        let mut above = NO_POWER;
-        for node in pattern {
-            let node = *node;
-            if node < VARIABLES {
-                match filling.term(node) {
-                    Some(term) => self.put_term(nodes, term, above),
-                    None => self.put(node),
-                }
-                above = NO_POWER;
-                if self.length > SIDE_NODES {
-                    return None;
-                }
-            } else if REINDEXED && node::is_power(node) {
-                above = self.put_power(node::reindexed(node, pair), above);
-            } else {
-                self.put(node);
-                above = node::power_name(node);
+/// Builds an instance node by node and answers how many there are, or, if there are too
+/// many, some number that is too large. "drop the zero powers and add up neighbours of
+/// the same symbol": a power's neighbour below is always the next node.
+fn build<const REINDEXED: bool>(
+    room: &mut [u64; ROOM],
+    nodes: &[u64],
+    pattern: &[u64],
+    pair: u64,
+    filling: &Filling,
+) -> usize {
+    let mut out = Out { room, length: 0 };
+    // The name of the power that stands last.
+    let mut above = NO_POWER;
+    for node in pattern {
+        let node = *node;
+        if node < VARIABLES {
+            out.put_term(nodes, filling.term(node), above);
+            above = NO_POWER;
+            if out.length > SIDE_NODES {
+                break;
             }
+        } else if REINDEXED && node::is_power(node) {
+            above = out.put_power(node::reindexed(node, pair), above);
+        } else {
+            out.put(node);
+            above = node::power_name(node);
         }
-        (self.length <= SIDE_NODES).then(|| &self.nodes[..self.length])
     }
+    out.length
+}
 
+/// The nodes built so far.
+struct Out<'a> {
+    room: &'a mut [u64; ROOM],
+    length: usize,
+}
+
+impl Out<'_> {
     #[inline(always)]
     fn put(&mut self, node: u64) {
-        self.nodes[self.length] = node;
+        self.room[self.length] = node;
         self.length += 1;
     }
 
@@ -90,7 +96,7 @@ impl Side {
             return above;
         }
         if node::name(power) == above {
-            self.nodes[self.length - 1] += exponents;
+            self.room[self.length - 1] += exponents;
         } else {
             self.put(power);
         }
@@ -98,35 +104,41 @@ impl Side {
     }
 
     /// Puts a whole term of a filling. It is normal, so only its root can be like the
-    /// power above it.
+    /// power above it. Of a short term a whole chunk is copied, of which a part counts.
     #[inline(always)]
     fn put_term(&mut self, nodes: &[u64], term: Span, above: u64) {
-        let (mut start, mut length) = (term.start as usize, term.length as usize);
-        let root = nodes[start];
-        if node::name(root) == above {
-            self.nodes[self.length - 1] += node::exponents(root);
-            (start, length) = (start + 1, length - 1);
+        let (start, length) = (term.start as usize, term.length as usize);
+        let chunk = &nodes[start..start + CHUNK];
+        if node::name(chunk[0]) == above && above != NO_POWER {
+            self.room[self.length - 1] += node::exponents(chunk[0]);
+            self.copy(&nodes[start + 1..start + length]);
+        } else if length <= CHUNK {
+            self.room[self.length..self.length + CHUNK].copy_from_slice(chunk);
+            self.length += length;
+        } else {
+            self.copy(&nodes[start..start + length]);
         }
-        self.copy(&nodes[start..], length);
     }
 
-    /// Short terms are copied as a whole chunk, of which only a part counts.
-    #[inline(always)]
-    fn copy(&mut self, from: &[u64], length: usize) {
-        let to = &mut self.nodes[self.length..];
-        match (to.first_chunk_mut::<CHUNK>(), from.first_chunk::<CHUNK>()) {
-            (Some(to), Some(from)) if length <= CHUNK => *to = *from,
-            _ => to[..length].copy_from_slice(&from[..length]),
-        }
-        self.length += length;
+    fn copy(&mut self, term: &[u64]) {
+        self.room[self.length..self.length + term.len()].copy_from_slice(term);
+        self.length += term.len();
     }
 }
 
 #[cfg(test)]
 mod tests {
     use super::*;
-    use crate::node::{pair, power, symbol};
+    use crate::node::pair;
     use crate::store::Entry;
+
+    fn symbol(symbol: u64) -> u64 {
+        node::symbol_in((1 << 8 | symbol) << 54)
+    }
+
+    fn power(symbol: u64, a: u64, b: u64) -> u64 {
+        node::symbol_in((2 << 8 | symbol) << 54) + pair(a, b)
+    }
 
     const S: u64 = 1;
     const R: u64 = 2;

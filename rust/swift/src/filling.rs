@@ -1,20 +1,24 @@
 //! A filling, indexed by its variables.
 
-use crate::store::{Entry, Span};
+use crate::store::{Entry, Span, VARIABLES};
 
 pub struct Filling {
     /// Bit v says whether the variable v is listed.
     listed: u64,
-    terms: [Span; 64],
+    terms: [Span; VARIABLES],
 }
 
 impl Filling {
     pub fn new() -> Filling {
-        Filling { listed: 0, terms: [Span::default(); 64] }
+        Filling { listed: 0, terms: std::array::from_fn(itself) }
     }
 
     pub fn set(&mut self, entries: &[Entry]) {
-        self.listed = 0;
+        while self.listed != 0 {
+            let variable = self.listed.trailing_zeros() as usize;
+            self.terms[variable] = itself(variable);
+            self.listed &= self.listed - 1;
+        }
         for entry in entries {
             let variable = entry.variable & 63;
             self.listed |= 1 << variable;
@@ -26,13 +30,14 @@ impl Filling {
         self.listed == 0
     }
 
-    /// The term of a variable below 64. "A variable that isn't listed stays itself."
+    /// The term of a variable below 64.
     #[inline(always)]
-    pub fn term(&self, variable: u64) -> Option<Span> {
-        let variable = variable & 63;
-        match self.listed >> variable & 1 {
-            0 => None,
-            _ => Some(self.terms[variable as usize]),
-        }
+    pub fn term(&self, variable: u64) -> Span {
+        self.terms[variable as usize & (VARIABLES - 1)]
     }
+}
+
+/// "A variable that isn't listed stays itself."
+fn itself(variable: usize) -> Span {
+    Span { start: variable as u32, length: 1 }
 }

@@ -4,6 +4,8 @@
 //! bits and its symbol in the eight below; these ten are its name. A power has a in the
 //! next 27 bits and b in the last 27; a symbol has zeros there.
 //!
+//! The name is laid out as tag and symbol are in a file.
+//!
 //! 27 bits are enough. In a file a and b lie below 4,096. Reindexed by i and j below
 //! 4,096 they lie below 2^24. A power drops out only by (0, 0), where the others have
 //! a = 0 and b as in the file; so either up to 256 numbers below 4,096 are added up, or
@@ -11,9 +13,8 @@
 
 /// Numbers below this are variables.
 pub const VARIABLES: u64 = 64;
-/// "Tag 1: symbol", "Tag 2: power".
-const SYMBOL: u64 = 1;
-const POWER: u64 = 2;
+/// "Tag 2: power". Tag 3 is refused, so a power is a node with the highest bit.
+const POWER: u64 = 2 << 62;
 
 const EXPONENT_BITS: u32 = 27;
 const NAME_FROM: u32 = 2 * EXPONENT_BITS;
@@ -21,20 +22,29 @@ const EXPONENTS: u64 = (1 << NAME_FROM) - 1;
 const B: u64 = (1 << EXPONENT_BITS) - 1;
 
 /// The name of no power.
-pub const NO_POWER: u64 = u64::MAX;
+pub const NO_POWER: u64 = 0;
 
-pub fn symbol(symbol: u64) -> u64 {
-    (SYMBOL << 8 | symbol) << NAME_FROM
+/// A symbol without its arguments, from a file's bits that begin with its tag.
+#[inline(always)]
+pub fn symbol_in(bits: u64) -> u64 {
+    bits & !EXPONENTS
 }
 
-pub fn power(symbol: u64, a: u64, b: u64) -> u64 {
-    (POWER << 8 | symbol) << NAME_FROM | a << EXPONENT_BITS | b
+/// A power, from a file's bits that begin with its tag.
+#[inline(always)]
+pub fn power_in(bits: u64) -> u64 {
+    bits & !EXPONENTS | bits >> 15 & 0xFFF << EXPONENT_BITS | bits >> 30 & 0xFFF
 }
 
 /// Kind and symbol.
 #[inline(always)]
 pub fn name(node: u64) -> u64 {
     node >> NAME_FROM
+}
+
+#[inline(always)]
+pub fn is_power(node: u64) -> bool {
+    node >= POWER
 }
 
 /// The name of a power; of another node `NO_POWER`.
@@ -44,11 +54,6 @@ pub fn power_name(node: u64) -> u64 {
         true => name(node),
         false => NO_POWER,
     }
-}
-
-#[inline(always)]
-pub fn is_power(node: u64) -> bool {
-    node >= POWER << 62
 }
 
 /// a and b, one beside the other.

@@ -8,8 +8,10 @@ pub const CERTIFICATE_BYTES: usize = 32_768;
 pub const TERM_NODES: usize = 256;
 /// How many nodes are copied at once: see `build`.
 pub const CHUNK: usize = 8;
+/// The variables 0 to 63 stand before all other nodes, each as a term of its own.
+pub const VARIABLES: usize = 64;
 /// No node is shorter than 8 bits. Behind the last, room for a whole term and a chunk.
-const NODES: usize = BOOK_BYTES + CERTIFICATE_BYTES + TERM_NODES + CHUNK;
+const NODES: usize = VARIABLES + BOOK_BYTES + CERTIFICATE_BYTES + TERM_NODES + CHUNK;
 /// The arity of a symbol that the book hasn't.
 pub const NO_SYMBOL: u8 = 0xFF;
 
@@ -89,10 +91,12 @@ pub struct Store {
 
 impl Store {
     pub fn new() -> Store {
+        let mut nodes = vec![0; NODES];
+        (0..).zip(&mut nodes[..VARIABLES]).for_each(|(variable, node)| *node = variable);
         Store {
             arities: [NO_SYMBOL; 256],
-            nodes: vec![0; NODES],
-            filled: 0,
+            nodes,
+            filled: VARIABLES,
             rules: Vec::with_capacity(255),
             calls: Vec::with_capacity(255 * 9),
             lines: Vec::with_capacity(255),
@@ -104,7 +108,7 @@ impl Store {
 
     pub fn clear(&mut self) {
         self.arities = [NO_SYMBOL; 256];
-        self.filled = 0;
+        self.filled = VARIABLES;
         self.rules.clear();
         self.calls.clear();
         self.lines.clear();

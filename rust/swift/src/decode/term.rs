@@ -1,14 +1,12 @@
 //! Terms, node by node.
 
 use crate::bits::{Bits, Fault};
-use crate::node::{self, NO_POWER};
+use crate::node;
 use crate::store::{Span, Store, TERM_NODES};
 
-const TAG: u32 = 2;
-const VARIABLE: u32 = TAG + 6;
-const SYMBOL: u32 = TAG + 8;
-const A: u32 = SYMBOL + 12;
-const POWER: u32 = A + 12;
+const VARIABLE_BITS: u32 = 2 + 6;
+const SYMBOL_BITS: u32 = 2 + 8;
+const POWER_BITS: u32 = 2 + 8 + 12 + 12;
 
 /// Decodes a term. In the book "roots may not be variables (4 at the tag)" and "powers
 /// have a = 0".
@@ -29,125 +27,92 @@ fn nodes<const IN_BOOK: bool>(
     room: &mut [u64; TERM_NODES],
 ) -> Result<usize, Fault> {
     let mut to_come = 1;
-    // The name of the power directly above.
-    let mut above = NO_POWER;
-    for (length, place) in (1..).zip(room) {
-        let window = bits.window();
-        let node = match window >> 62 {
-            0 => variable::<IN_BOOK>(bits, window, length == 1)?,
-            1 => {
-                let (node, arity) = symbol(bits, window, arities)?;
-                to_come += arity;
-                node
-            }
-            2 => {
-                to_come += 1;
-                power::<IN_BOOK>(bits, window, arities, above)?
-            }
-            // "Tag 3 is refused."
-            _ => return Fault::new(4, bits.at),
+    let mut around = Around { arities, before: 0, no_variable: IN_BOOK };
+    for (place, to) in room.iter_mut().enumerate() {
+        let (node, arity) = match quick::<IN_BOOK>(bits, &around) {
+            Some(found) => found,
+            None => careful::<IN_BOOK>(bits, &around)?,
         };
-        above = node::power_name(node);
-        *place = node;
-        to_come -= 1;
+        *to = node;
+        to_come = to_come - 1 + arity;
         if to_come == 0 {
-            return Ok(length);
+            return Ok(place + 1);
         }
+        around.before = node;
+        around.no_variable = false;
     }
     // "a 257th node would begin, found before its tag is read"
     Fault::new(6, bits.at)
 }
 
-/// "Tag 0: variable, 6 bits."
+/// What a node must know of its surroundings.
+struct Around<'a> {
+    arities: &'a [u8; 256],
+    /// The node before this one: if it is a power, it stands directly above.
+    before: u64,
+    /// The node is the root of a head or of a call of a rule.
+    no_variable: bool,
+}
+
+/// A node and its arity, if it is good and the file doesn't end soon.
 #[inline(always)]
-fn variable<const IN_BOOK: bool>(
-    bits: &mut Bits,
-    window: u64,
-    is_root: bool,
-) -> Result<u64, Fault> {
-    if bits.left() < VARIABLE || IN_BOOK && is_root {
-        return variable_fault(bits, IN_BOOK && is_root);
-    }
-    bits.at += VARIABLE;
-    Ok(window >> (64 - VARIABLE))
-}
-
-/// What is wrong with a variable. Behind the end of a file there are zeros, so this is
-/// also where a tag is cut off.
-#[cold]
-fn variable_fault(bits: &Bits, at_root: bool) -> Result<u64, Fault> {
-    match bits.left() {
-        0..TAG => Fault::new(3, bits.at),
-        _ if at_root => Fault::new(4, bits.at),
-        _ => Fault::new(3, bits.at + TAG),
-    }
-}
-
-/// "Tag 1: symbol, 8 bits, arity not 1." The node and its arity.
-#[inline(always)]
-fn symbol(bits: &mut Bits, window: u64, arities: &[u8; 256]) -> Result<(u64, u32), Fault> {
-    if bits.left() < SYMBOL {
-        return Fault::new(3, bits.at + TAG);
-    }
-    let symbol = window >> (64 - SYMBOL) & 0xFF;
-    let arity = arities[symbol as usize];
-    if arity > 8 || arity == 1 {
-        return Fault::new(4, bits.at + TAG);
-    }
-    bits.at += SYMBOL;
-    Ok((node::symbol(symbol), u32::from(arity)))
-}
-
-/// "Tag 2: power, symbol 8 bits of arity 1, a 12 bits, b 12 bits."
-#[inline(always)]
-fn power<const IN_BOOK: bool>(
-    bits: &mut Bits,
-    window: u64,
-    arities: &[u8; 256],
-    above: u64,
-) -> Result<u64, Fault> {
-    let symbol = window >> (64 - SYMBOL) & 0xFF;
-    let a = window >> (64 - A) & 0xFFF;
-    let b = window >> (64 - POWER) & 0xFFF;
-    let power = node::power(symbol, a, b);
-    if bits.left() < POWER
-        || arities[symbol as usize] != 1
-        || node::name(power) == above
-        || IN_BOOK && a != 0
-        || a | b == 0
-    {
-        let below_its_like = node::name(power) == above;
-        return power_fault::<IN_BOOK>(bits, arities[symbol as usize], below_its_like, a);
-    }
-    bits.at += POWER;
-    Ok(power)
-}
-
-/// What is wrong with a power, field by field; if all else is good, it is b. Its tag is
-/// cut off if only one bit is left.
-#[cold]
-fn power_fault<const IN_BOOK: bool>(
-    bits: &Bits,
-    arity: u8,
-    below_its_like: bool,
-    a: u64,
-) -> Result<u64, Fault> {
-    let (left, at) = (bits.left(), bits.at);
-    if left < TAG {
-        Fault::new(3, at)
-    } else if left < SYMBOL {
-        Fault::new(3, at + TAG)
-    } else if arity != 1 {
-        Fault::new(4, at + TAG)
-    } else if below_its_like {
-        Fault::new(5, at + TAG)
-    } else if left < A {
-        Fault::new(3, at + SYMBOL)
-    } else if IN_BOOK && a != 0 {
-        Fault::new(4, at + SYMBOL)
-    } else if left < POWER {
-        Fault::new(3, at + A)
+fn quick<const IN_BOOK: bool>(bits: &mut Bits, around: &Around) -> Option<(u64, u32)> {
+    let window = bits.whole_window()?;
+    let tag = window >> 62;
+    let arity = || around.arities[(window >> 54) as usize & 0xFF];
+    if tag == 2 {
+        let power = node::power_in(window);
+        if arity() != 1
+            || node::exponents(power) == 0
+            || node::name(power) == node::name(around.before)
+            || IN_BOOK && !node::is_level(power)
+        {
+            return None;
+        }
+        bits.at += POWER_BITS;
+        Some((power, 1))
+    } else if tag == 0 {
+        if around.no_variable {
+            return None;
+        }
+        bits.at += VARIABLE_BITS;
+        Some((window >> 56, 0))
     } else {
-        Fault::new(5, at + A)
+        let arity = arity();
+        if tag == 3 || arity == 1 || arity > 8 {
+            return None;
+        }
+        bits.at += SYMBOL_BITS;
+        Some((node::symbol_in(window), u32::from(arity)))
+    }
+}
+
+/// A node and its arity, field by field.
+#[cold]
+#[inline(never)]
+fn careful<const IN_BOOK: bool>(bits: &mut Bits, around: &Around) -> Result<(u64, u32), Fault> {
+    let window = bits.window();
+    let arity = |symbol: u32| around.arities[symbol as usize];
+    // "Tag 3 is refused."
+    match bits.take_if(2, |tag| tag != 3 && !(around.no_variable && tag == 0))? {
+        0 => Ok((u64::from(bits.take(6)?), 0)),
+        1 => {
+            let symbol = bits.take_if(8, |symbol| arity(symbol) != 1 && arity(symbol) <= 8)?;
+            Ok((node::symbol_in(window), u32::from(arity(symbol))))
+        }
+        _ => {
+            let at = bits.at;
+            bits.take_if(8, |symbol| arity(symbol) == 1)?;
+            // 5 "at the symbol below its like, or at b if a = b = 0"
+            if node::name(window) == node::name(around.before) {
+                return Fault::new(5, at);
+            }
+            let a = bits.take_if(12, |a| !IN_BOOK || a == 0)?;
+            let at = bits.at;
+            match bits.take(12)? | a {
+                0 => Fault::new(5, at),
+                _ => Ok((node::power_in(window), 1)),
+            }
+        }
     }
 }
