@@ -46,8 +46,8 @@ fn output_of(program: &Path, input: &[u8], feeding: Feeding) -> Result<String> {
         Feeding::Pieces(size) => {
             let (ours, theirs) = UnixDatagram::pair()?;
             let child = run(OwnedFd::from(theirs).into())?;
-            let pieces = input.chunks(size).chain([&[][..]]);
-            let fed = pieces.map(|piece| ours.send(piece).map(drop)).collect();
+            let mut pieces = input.chunks(size).chain([&[][..]]);
+            let fed = pieces.try_for_each(|piece| ours.send(piece).map(drop));
             (child, fed)
         }
     };
