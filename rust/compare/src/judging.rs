@@ -2,7 +2,8 @@
 
 use crate::lent::{noise, Lent};
 use crate::proved::Side;
-use crate::{hex, Compared};
+use crate::Compared;
+use generate::hex::hex;
 use generate::inputs::{Input, Kind};
 use generate::random::Random;
 use second::judging::WORK_NUMBERS;

@@ -15,11 +15,3 @@ pub mod swiftly;
 /// What was different, in words, with all that is needed to see it again.
 pub type Difference = String;
 pub type Compared<T> = Result<T, Difference>;
-
-/// Two digits for each byte; a lone hyphen for nothing at all.
-pub fn hex(bytes: &[u8]) -> String {
-    if bytes.is_empty() {
-        return "-".to_string();
-    }
-    bytes.iter().map(|byte| format!("{byte:02x}")).collect()
-}

@@ -1,6 +1,7 @@
 //! The program `judge`, run on inputs in its own framing.
 
-use crate::{hex, Compared};
+use crate::Compared;
+use generate::hex::hex;
 use second::{judge_input, verdict_line, Verdict};
 use std::io::{Error, ErrorKind, Result, Write};
 use std::os::fd::OwnedFd;

@@ -3,6 +3,7 @@
 
 pub mod damage;
 pub mod faults;
+pub mod hex;
 pub mod inputs;
 pub mod large;
 pub mod nudge;

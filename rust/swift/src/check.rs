@@ -51,10 +51,11 @@ impl Table {
     }
 
     pub fn line(&mut self, store: &Store, line: &Line) -> Checked {
-        self.own.set(store.entries(line.filling));
-        let uses = &store.uses[line.first_use as usize..][..line.uses as usize];
-        let rule = store.rules[usize::from(line.rule)];
-        match line.kind {
+        let proof = &line.proof;
+        self.own.set(store.entries(proof.filling));
+        let uses = &store.uses[proof.first_use as usize..][..proof.uses as usize];
+        let rule = store.rules[usize::from(proof.rule)];
+        match proof.kind {
             Kind::Unfold { stop } => self.unfold(store, line, rule, stop, uses),
             Kind::Descent => self.descent(store, line, rule, &uses[0]),
         }

@@ -59,9 +59,15 @@ pub enum Kind {
 
 #[derive(Clone, Copy)]
 pub struct Line {
-    pub kind: Kind,
     pub left: Span,
     pub right: Span,
+    pub proof: Proof,
+}
+
+/// The rest of a line: a rule with its filling, and uses.
+#[derive(Clone, Copy)]
+pub struct Proof {
+    pub kind: Kind,
     pub rule: u8,
     pub filling: Entries,
     /// Some uses of `Store::uses`; a descent's base is one.

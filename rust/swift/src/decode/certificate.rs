@@ -3,7 +3,7 @@
 use super::term::term;
 use crate::bits::{Bits, Fault};
 use crate::node::pair;
-use crate::store::{Closing, Entries, Entry, Kind, Line, Span, Store, Use};
+use crate::store::{Closing, Entries, Entry, Kind, Line, Proof, Span, Store, Use};
 
 /// "line count 8; lines; closing"
 pub fn decode_certificate(certificate: &[u8], store: &mut Store) -> Result<Closing, Fault> {
@@ -27,21 +27,16 @@ fn line(bits: &mut Bits, store: &mut Store, number: u32) -> Result<Line, Fault> 
         0 => Span::default(),
         _ => term::<false>(bits, store)?,
     };
-    match kind {
-        0 => unfold(bits, store, number, left, right),
-        _ => descent(bits, store, number, left, right),
-    }
+    let proof = match kind {
+        0 => unfold(bits, store, number)?,
+        _ => descent(bits, store, number)?,
+    };
+    Ok(Line { left, right, proof })
 }
 
 /// "rule 8, i 4, filling, a use for each j < i, then, if i is not 0, one bit, and a use
 /// if it is 1"
-fn unfold(
-    bits: &mut Bits,
-    store: &mut Store,
-    number: u32,
-    left: Span,
-    right: Span,
-) -> Result<Line, Fault> {
+fn unfold(bits: &mut Bits, store: &mut Store, number: u32) -> Result<Proof, Fault> {
     let rule = bits.take_if(8, |rule| (rule as usize) < store.rules.len())?;
     let calls = store.rules[rule as usize].calls;
     // "If m = 0 then i = 0; else i is 1 to m."
@@ -57,23 +52,17 @@ fn unfold(
         uses += 1;
     }
     let (kind, rule) = (Kind::Unfold { stop }, rule as u8);
-    Ok(Line { kind, left, right, rule, filling, first_use, uses })
+    Ok(Proof { kind, rule, filling, first_use, uses })
 }
 
 /// "use, rule 8 (one of exactly one call), filling"
-fn descent(
-    bits: &mut Bits,
-    store: &mut Store,
-    number: u32,
-    left: Span,
-    right: Span,
-) -> Result<Line, Fault> {
+fn descent(bits: &mut Bits, store: &mut Store, number: u32) -> Result<Proof, Fault> {
     let first_use = store.uses.len() as u32;
     one_use(bits, store, number)?;
     let one_call = |rule: u32| store.rules.get(rule as usize).is_some_and(|rule| rule.calls == 1);
     let rule = bits.take_if(8, one_call)? as u8;
     let filling = filling(bits, store)?;
-    Ok(Line { kind: Kind::Descent, left, right, rule, filling, first_use, uses: 1 })
+    Ok(Proof { kind: Kind::Descent, rule, filling, first_use, uses: 1 })
 }
 
 /// "line 8 (earlier than this line), i 12, j 12, filling"
