@@ -15,6 +15,7 @@ impl Fault {
 
 /// "Fields are bit-packed, most significant bit first, with no gaps." A file has fewer
 /// than 2^32 bits.
+#[derive(Clone, Copy)]
 pub struct Bits<'a> {
     bytes: &'a [u8],
     pub at: u32,

@@ -1,7 +1,7 @@
 //! Sides in normal form, built from slices of nodes.
 
 use crate::filling::Filling;
-use crate::node::{self, NO_POWER, VARIABLES};
+use crate::node::{self, VARIABLES};
 use crate::store::{Span, Store, CHUNK, TERM_NODES};
 
 /// "A side whose normal form has more than 1,024 nodes is refused with 16".
@@ -12,6 +12,9 @@ const ROOM: usize = SIDE_NODES + 2 * TERM_NODES + CHUNK;
 
 /// The index pair that changes nothing.
 pub const AS_IT_IS: u64 = node::pair(1, 0);
+
+/// No node: it has the name of no power.
+const NOTHING: u64 = 0;
 
 /// Where a side is built.
 pub struct Side {
@@ -55,13 +58,13 @@ fn build<const REINDEXED: bool>(
     filling: &Filling,
 ) -> usize {
     let mut out = Out { room, length: 0 };
-    // The name of the power that stands last.
-    let mut above = NO_POWER;
+    // The node of the pattern that was put last, if nothing was put for a variable since.
+    let mut above = NOTHING;
     for node in pattern {
         let node = *node;
         if node < VARIABLES {
             out.put_term(nodes, filling.term(node), above);
-            above = NO_POWER;
+            above = NOTHING;
             if out.length > SIDE_NODES {
                 break;
             }
@@ -69,7 +72,7 @@ fn build<const REINDEXED: bool>(
             above = out.put_power(node::reindexed(node, pair), above);
         } else {
             out.put(node);
-            above = node::power_name(node);
+            above = node;
         }
     }
     out.length
@@ -88,28 +91,29 @@ impl Out<'_> {
         self.length += 1;
     }
 
-    /// Puts a power, and answers the name of the power that stands last then.
+    /// Puts a power below the node that was put last, and answers which one that is then.
     #[inline(always)]
     fn put_power(&mut self, power: u64, above: u64) -> u64 {
         let exponents = node::exponents(power);
         if exponents == 0 {
             return above;
         }
-        if node::name(power) == above {
+        if node::name(power) == node::name(above) {
             self.room[self.length - 1] += exponents;
         } else {
             self.put(power);
         }
-        node::name(power)
+        power
     }
 
-    /// Puts a whole term of a filling. It is normal, so only its root can be like the
-    /// power above it. Of a short term a whole chunk is copied, of which a part counts.
+    /// Puts a whole term of a filling below the node that was put last. It is normal, so
+    /// only its root can be like that node. Of a short term a whole chunk is copied, of
+    /// which a part counts.
     #[inline(always)]
     fn put_term(&mut self, nodes: &[u64], term: Span, above: u64) {
         let (start, length) = (term.start as usize, term.length as usize);
         let chunk = &nodes[start..start + CHUNK];
-        if node::name(chunk[0]) == above && above != NO_POWER {
+        if node::is_power(chunk[0]) && node::name(chunk[0]) == node::name(above) {
             self.room[self.length - 1] += node::exponents(chunk[0]);
             self.copy(&nodes[start + 1..start + length]);
         } else if length <= CHUNK {

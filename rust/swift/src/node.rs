@@ -21,9 +21,6 @@ const NAME_FROM: u32 = 2 * EXPONENT_BITS;
 const EXPONENTS: u64 = (1 << NAME_FROM) - 1;
 const B: u64 = (1 << EXPONENT_BITS) - 1;
 
-/// The name of no power.
-pub const NO_POWER: u64 = 0;
-
 /// A symbol without its arguments, from a file's bits that begin with its tag.
 #[inline(always)]
 pub fn symbol_in(bits: u64) -> u64 {
@@ -45,15 +42,6 @@ pub fn name(node: u64) -> u64 {
 #[inline(always)]
 pub fn is_power(node: u64) -> bool {
     node >= POWER
-}
-
-/// The name of a power; of another node `NO_POWER`.
-#[inline(always)]
-pub fn power_name(node: u64) -> u64 {
-    match is_power(node) {
-        true => name(node),
-        false => NO_POWER,
-    }
 }
 
 /// a and b, one beside the other.

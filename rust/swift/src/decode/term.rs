@@ -26,92 +26,100 @@ fn nodes<const IN_BOOK: bool>(
     arities: &[u8; 256],
     room: &mut [u64; TERM_NODES],
 ) -> Result<usize, Fault> {
+    let mut here = *bits;
     let mut to_come = 1;
-    let mut around = Around { arities, before: 0, no_variable: IN_BOOK };
-    for (place, to) in room.iter_mut().enumerate() {
-        let (node, arity) = match quick::<IN_BOOK>(bits, &around) {
+    // The node before this one: if it is a power, it stands directly above.
+    let mut before = 0;
+    let mut place = 0;
+    while place < TERM_NODES {
+        let no_variable = IN_BOOK && place == 0;
+        let found = match quick::<IN_BOOK>(&here, arities, before, no_variable) {
             Some(found) => found,
-            None => careful::<IN_BOOK>(bits, &around)?,
+            None => careful::<IN_BOOK>(here, arities, before, no_variable)?,
         };
-        *to = node;
-        to_come = to_come - 1 + arity;
+        here.at += found.width;
+        before = found.node;
+        room[place] = found.node;
+        place += 1;
+        to_come = to_come - 1 + found.arity;
         if to_come == 0 {
-            return Ok(place + 1);
+            *bits = here;
+            return Ok(place);
         }
-        around.before = node;
-        around.no_variable = false;
     }
     // "a 257th node would begin, found before its tag is read"
-    Fault::new(6, bits.at)
+    Fault::new(6, here.at)
 }
 
-/// What a node must know of its surroundings.
-struct Around<'a> {
-    arities: &'a [u8; 256],
-    /// The node before this one: if it is a power, it stands directly above.
-    before: u64,
-    /// The node is the root of a head or of a call of a rule.
-    no_variable: bool,
+/// A node, its arity, and how many bits it takes.
+struct Found {
+    node: u64,
+    arity: u32,
+    width: u32,
 }
 
-/// A node and its arity, if it is good and the file doesn't end soon.
+/// The next node, if it is good and the file doesn't end soon.
 #[inline(always)]
-fn quick<const IN_BOOK: bool>(bits: &mut Bits, around: &Around) -> Option<(u64, u32)> {
+fn quick<const IN_BOOK: bool>(
+    bits: &Bits,
+    arities: &[u8; 256],
+    before: u64,
+    no_variable: bool,
+) -> Option<Found> {
     let window = bits.whole_window()?;
     let tag = window >> 62;
-    let arity = || around.arities[(window >> 54) as usize & 0xFF];
+    let arity = || u32::from(arities[(window >> 54) as usize & 0xFF]);
     if tag == 2 {
-        let power = node::power_in(window);
-        if arity() != 1
-            || node::exponents(power) == 0
-            || node::name(power) == node::name(around.before)
-            || IN_BOOK && !node::is_level(power)
-        {
-            return None;
-        }
-        bits.at += POWER_BITS;
-        Some((power, 1))
+        let node = node::power_in(window);
+        let good = arity() == 1
+            && node::exponents(node) != 0
+            && node::name(node) != node::name(before)
+            && (!IN_BOOK || node::is_level(node));
+        good.then_some(Found { node, arity: 1, width: POWER_BITS })
     } else if tag == 0 {
-        if around.no_variable {
-            return None;
-        }
-        bits.at += VARIABLE_BITS;
-        Some((window >> 56, 0))
+        let node = window >> 56;
+        (!no_variable).then_some(Found { node, arity: 0, width: VARIABLE_BITS })
     } else {
-        let arity = arity();
-        if tag == 3 || arity == 1 || arity > 8 {
-            return None;
-        }
-        bits.at += SYMBOL_BITS;
-        Some((node::symbol_in(window), u32::from(arity)))
+        let (node, arity) = (node::symbol_in(window), arity());
+        let good = tag == 1 && arity != 1 && arity <= 8;
+        good.then_some(Found { node, arity, width: SYMBOL_BITS })
     }
 }
 
-/// A node and its arity, field by field.
+/// The next node, field by field.
 #[cold]
 #[inline(never)]
-fn careful<const IN_BOOK: bool>(bits: &mut Bits, around: &Around) -> Result<(u64, u32), Fault> {
+fn careful<const IN_BOOK: bool>(
+    mut bits: Bits,
+    arities: &[u8; 256],
+    before: u64,
+    no_variable: bool,
+) -> Result<Found, Fault> {
     let window = bits.window();
-    let arity = |symbol: u32| around.arities[symbol as usize];
+    let arity = |symbol: u32| u32::from(arities[symbol as usize]);
     // "Tag 3 is refused."
-    match bits.take_if(2, |tag| tag != 3 && !(around.no_variable && tag == 0))? {
-        0 => Ok((u64::from(bits.take(6)?), 0)),
+    match bits.take_if(2, |tag| tag != 3 && !(no_variable && tag == 0))? {
+        0 => {
+            let node = u64::from(bits.take(6)?);
+            Ok(Found { node, arity: 0, width: VARIABLE_BITS })
+        }
         1 => {
             let symbol = bits.take_if(8, |symbol| arity(symbol) != 1 && arity(symbol) <= 8)?;
-            Ok((node::symbol_in(window), u32::from(arity(symbol))))
+            let (node, arity) = (node::symbol_in(window), arity(symbol));
+            Ok(Found { node, arity, width: SYMBOL_BITS })
         }
         _ => {
             let at = bits.at;
             bits.take_if(8, |symbol| arity(symbol) == 1)?;
             // 5 "at the symbol below its like, or at b if a = b = 0"
-            if node::name(window) == node::name(around.before) {
+            if node::name(window) == node::name(before) {
                 return Fault::new(5, at);
             }
             let a = bits.take_if(12, |a| !IN_BOOK || a == 0)?;
             let at = bits.at;
             match bits.take(12)? | a {
                 0 => Fault::new(5, at),
-                _ => Ok((node::power_in(window), 1)),
+                _ => Ok(Found { node: node::power_in(window), arity: 1, width: POWER_BITS }),
             }
         }
     }
