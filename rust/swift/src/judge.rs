@@ -74,9 +74,7 @@ fn lent(work: &mut [u64]) -> Result<(), Refusal> {
     if work.len() < WORK_NUMBERS {
         return Err(placeless(1, NEITHER));
     }
-    // One fill would become one instruction that is repeated for each byte, which makes
-    // counts of instructions say little.
-    work.chunks_mut(128).for_each(|numbers| numbers.fill(0));
+    work.fill(0);
     Ok(())
 }
 
