@@ -105,6 +105,12 @@ fn table(vectors: &[Vector], seconds: f64) {
     for input in vectors {
         row(input, seconds);
     }
+    let mut work = work();
+    let [clearing] = times(seconds / 3.0, [&mut || black_box(&mut work).fill(0)]);
+    println!(
+        "\nEach of these times has {:.1} µs in it for clearing the work table.",
+        clearing * 1e6
+    );
 }
 
 fn row(input: &Vector, seconds: f64) {
@@ -152,13 +158,13 @@ fn times_of(seconds: f64, book: &[u8], certificate: &[u8]) -> [f64; 3] {
 }
 
 /// The median time of a call of each, in seconds, all taking turns.
-fn times(seconds: f64, judges: [&mut dyn FnMut(); 3]) -> [f64; 3] {
+fn times<const N: usize>(seconds: f64, calls: [&mut dyn FnMut(); N]) -> [f64; N] {
     const TURNS: usize = 21;
-    let share = Duration::from_secs_f64(seconds / (judges.len() * TURNS) as f64);
-    let mut timed = judges.map(|judge| (calls_in(share, judge), judge, Vec::new()));
+    let share = Duration::from_secs_f64(seconds / (N * TURNS) as f64);
+    let mut timed = calls.map(|call| (calls_in(share, call), call, Vec::new()));
     for _ in 0..TURNS {
-        for (calls, judge, found) in &mut timed {
-            found.push(time_of(*calls, judge));
+        for (count, call, found) in &mut timed {
+            found.push(time_of(*count, call));
         }
     }
     timed.map(|(_, _, mut found)| {
