@@ -143,13 +143,9 @@ impl Table {
         part: u32,
     ) -> Checked {
         let fillings = (&self.own, &self.used, &self.none);
-        let sides = built(&mut self.first, store, first, fillings).zip(built(
-            &mut self.second,
-            store,
-            second,
-            fillings,
-        ));
-        match sides {
+        let first = built(&mut self.first, store, first, fillings);
+        let second = built(&mut self.second, store, second, fillings);
+        match first.zip(second) {
             None => Err(Unmet { number: 16, part }),
             Some((first, second)) => demand(first == second, otherwise, part),
         }

@@ -29,7 +29,7 @@ fn generated_inputs_get_the_same_verdict() {
     let mut met = BTreeMap::<String, usize>::new();
     for seed in 100..120 {
         let mut inputs = Inputs::new(seed);
-        for _ in 0..1_000 {
+        for _ in 0..400 {
             let input = inputs.next_input();
             let line = judged(&mut judge, &input.book, &input.certificate);
             let number = line.split(' ').take(2).collect::<Vec<&str>>().join(" ");
@@ -40,7 +40,7 @@ fn generated_inputs_get_the_same_verdict() {
     // 1 needs a short table, and 8 is never given by judging.
     let numbers = (2..=7).chain(9..=16).map(|number| format!("refuse {number}"));
     for wanted in numbers.chain(["accept".to_string()]) {
-        assert!(met.get(&wanted).is_some_and(|count| *count >= 20), "{wanted}: {met:?}");
+        assert!(met.get(&wanted).is_some_and(|count| *count >= 10), "{wanted}: {met:?}");
     }
 }
 
@@ -49,14 +49,14 @@ fn whole_inputs_get_the_same_verdict() {
     let (mut judge, mut inputs) = (Judge::new(), Inputs::new(99));
     let mut work = vec![0; WORK_NUMBERS];
     let mut frames = 0;
-    for _ in 0..4_000 {
+    for _ in 0..2_000 {
         let input = inputs.next_input();
         frames += usize::from(input.kind == Kind::Frame);
         let expected = verdict_line(&second::judge_input(&input.framed, &mut work));
         let found = judge.judge_input(&input.framed, &mut work).to_string();
         assert_eq!(found, expected, "{:02x?}", input.framed);
     }
-    assert!(frames > 40, "{frames}");
+    assert!(frames > 20, "{frames}");
 }
 
 /// Each bit of the files flipped, and both cut at each byte.
