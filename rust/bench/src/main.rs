@@ -1,7 +1,11 @@
-//! Times the proved judge beside the second one, on the same inputs in one run.
+//! Times the proved judge between the second one and the swift one, on the same inputs in
+//! one run.
 //!
-//!     bench [SECONDS]              the table; so many seconds for each input (2)
-//!     bench once proved|second NAME   judges one input once, for a profiler
+//!     bench [SECONDS]       the table; so many seconds for each input (3)
+//!     bench once JUDGE NAME    judges one input once, for a profiler
+//!
+//! JUDGE is second, proved or swift. All three are lent a work table of 8,192 numbers and
+//! leave zeros in it. The swift judge's own memory is allocated before it is timed.
 //!
 //! Build it by the profile bench-release: that has no overflow checks and no debug
 //! assertions, which the tests have.
@@ -12,6 +16,7 @@ use nodes::{nodes_built, nodes_read};
 use std::hint::black_box;
 use std::process::ExitCode;
 use std::time::{Duration, Instant};
+use swift::Judge;
 use text::vectors::{parse_vectors, Vector};
 
 const INPUTS: &str = include_str!("../inputs.txt");
@@ -21,16 +26,16 @@ fn main() -> ExitCode {
     let words: Vec<&str> = arguments.iter().map(String::as_str).collect();
     let vectors = parse_vectors(INPUTS).expect("the inputs are what they say");
     match words[..] {
-        [] => table(&vectors, 2.0),
+        [] => table(&vectors, 3.0),
         [seconds] => match seconds.parse() {
             Ok(seconds) => table(&vectors, seconds),
             Err(_) => return help(&vectors),
         },
         ["once", judge, name] => {
             let input = vectors.iter().find(|vector| vector.name == name);
-            match (judge_called(judge), input) {
-                (Some(judge), Some(input)) => println!("{}", judge(input, &mut work())),
-                _ => return help(&vectors),
+            match input.and_then(|input| answer_of(judge, input)) {
+                Some(answer) => println!("{answer}"),
+                None => return help(&vectors),
             }
         }
         _ => return help(&vectors),
@@ -40,7 +45,8 @@ fn main() -> ExitCode {
 
 fn help(vectors: &[Vector]) -> ExitCode {
     let names: Vec<&str> = vectors.iter().map(|vector| vector.name.as_str()).collect();
-    eprintln!("bench [SECONDS]\nbench once proved|second NAME\nNAME: {}", names.join(", "));
+    let judges = JUDGES.join("|");
+    eprintln!("bench [SECONDS]\nbench once {judges} NAME\nNAME: {}", names.join(", "));
     ExitCode::from(2)
 }
 
@@ -48,25 +54,20 @@ fn work() -> Vec<u64> {
     vec![0; gearcinder::WORK_NUMBERS]
 }
 
-type Judge = fn(&Vector, &mut [u64]) -> String;
+const JUDGES: [&str; 3] = ["second", "proved", "swift"];
 
-fn judge_called(name: &str) -> Option<Judge> {
-    match name {
-        "proved" => Some(by_proved),
-        "second" => Some(by_second),
+/// What the judge of this name answers, as the program's line.
+fn answer_of(judge: &str, input: &Vector) -> Option<String> {
+    let (book, certificate, work) = (input.first.bytes(), input.second.bytes(), &mut work());
+    match judge {
+        "second" => Some(second::verdict_line(&second_judgement(book, certificate, work))),
+        "proved" => Some(gearcinder_judgement(book, certificate, work).to_string()),
+        "swift" => Some(swift_judgement(&mut Judge::new(), book, certificate, work).to_string()),
         _ => None,
     }
 }
 
-fn by_proved(input: &Vector, work: &mut [u64]) -> String {
-    gearcinder_judgement(input.first.bytes(), input.second.bytes(), work).to_string()
-}
-
-fn by_second(input: &Vector, work: &mut [u64]) -> String {
-    second::verdict_line(&second_judgement(input.first.bytes(), input.second.bytes(), work))
-}
-
-// The two judgements have names of their own, so that a profiler can count what happens
+// The judgements have names of their own, so that a profiler can count what happens
 // in them alone.
 
 #[inline(never)]
@@ -81,71 +82,99 @@ fn second_judgement(book: &[u8], certificate: &[u8], work: &mut [u64]) -> second
     second::judge(book, certificate, work)
 }
 
+#[inline(never)]
+#[no_mangle]
+fn swift_judgement(
+    judge: &mut Judge,
+    book: &[u8],
+    certificate: &[u8],
+    work: &mut [u64],
+) -> swift::Verdict {
+    judge.judge(book, certificate, work)
+}
+
 fn table(vectors: &[Vector], seconds: f64) {
     if cfg!(debug_assertions) {
         println!("built with debug assertions: use --profile bench-release");
     }
     println!(
-        "| input | bytes | nodes read | nodes built | proved, µs | second, µs | proved, nodes/s | \
-         proved, bytes/s | second, nodes/s | second, bytes/s | second : proved |"
+        "| input | bytes | nodes read | nodes built | second, µs | proved, µs | swift, µs | \
+         proved, nodes/s | proved, bytes/s | second : proved | proved : swift |"
     );
     println!("|---|---|---|---|---|---|---|---|---|---|---|");
     for input in vectors {
         row(input, seconds);
     }
+    let mut work = work();
+    let [clearing] = times(seconds / 3.0, [&mut || black_box(&mut work).fill(0)]);
+    println!(
+        "\nEach of these times has {:.1} µs in it for clearing the work table.",
+        clearing * 1e6
+    );
 }
 
 fn row(input: &Vector, seconds: f64) {
     let (book, certificate) = (input.first.bytes(), input.second.bytes());
-    let answers = [by_proved, by_second].map(|judge| judge(input, &mut work()));
-    for answer in &answers {
-        assert_eq!(*answer, input.answer, "{}", input.name);
+    for judge in JUDGES {
+        assert_eq!(answer_of(judge, input).as_ref(), Some(&input.answer), "{}", input.name);
     }
-    let (mut one, mut other) = (work(), work());
-    let [proved, second] = times(
-        seconds,
-        || {
-            black_box(gearcinder_judgement(black_box(book), black_box(certificate), &mut one));
-        },
-        || {
-            black_box(second_judgement(black_box(book), black_box(certificate), &mut other));
-        },
-    );
+    let [second, proved, swift] = times_of(seconds, book, certificate);
     let bytes = book.len() + certificate.len();
     let read = nodes_read(book, certificate);
     let built = nodes_built(book, certificate);
-    let rate = |count: usize, time: f64| format!("{:.2e}", count as f64 / time);
+    let rate = |count: usize| format!("{:.2e}", count as f64 / proved);
     println!(
-        "| {} | {bytes} | {read} | {built} | {:.1} | {:.1} | {} | {} | {} | {} | {:.2} |",
+        "| {} | {bytes} | {read} | {built} | {:.1} | {:.1} | {:.1} | {} | {} | {:.2} | {:.2} |",
         input.name,
-        proved * 1e6,
         second * 1e6,
-        rate(read + built, proved),
-        rate(bytes, proved),
-        rate(read + built, second),
-        rate(bytes, second),
-        second / proved
+        proved * 1e6,
+        swift * 1e6,
+        rate(read + built),
+        rate(bytes),
+        second / proved,
+        proved / swift
     );
 }
 
-/// The median time of a call of each, in seconds, the two taking turns.
-fn times(seconds: f64, mut one: impl FnMut(), mut other: impl FnMut()) -> [f64; 2] {
+/// The times of the three judges, in the order of `JUDGES`.
+fn times_of(seconds: f64, book: &[u8], certificate: &[u8]) -> [f64; 3] {
+    let mut works = [work(), work(), work()];
+    let [one, two, three] = &mut works;
+    let mut judge = Judge::new();
+    let files = || (black_box(book), black_box(certificate));
+    let mut by_second = || {
+        let (book, certificate) = files();
+        black_box(second_judgement(book, certificate, one));
+    };
+    let mut by_proved = || {
+        let (book, certificate) = files();
+        black_box(gearcinder_judgement(book, certificate, two));
+    };
+    let mut by_swift = || {
+        let (book, certificate) = files();
+        black_box(swift_judgement(&mut judge, book, certificate, three));
+    };
+    times(seconds, [&mut by_second, &mut by_proved, &mut by_swift])
+}
+
+/// The median time of a call of each, in seconds, all taking turns.
+fn times<const N: usize>(seconds: f64, calls: [&mut dyn FnMut(); N]) -> [f64; N] {
     const TURNS: usize = 21;
-    let share = Duration::from_secs_f64(seconds / (2 * TURNS) as f64);
-    let calls = [calls_in(share, &mut one), calls_in(share, &mut other)];
-    let mut found = [Vec::new(), Vec::new()];
+    let share = Duration::from_secs_f64(seconds / (N * TURNS) as f64);
+    let mut timed = calls.map(|call| (calls_in(share, call), call, Vec::new()));
     for _ in 0..TURNS {
-        found[0].push(time_of(calls[0], &mut one));
-        found[1].push(time_of(calls[1], &mut other));
+        for (count, call, found) in &mut timed {
+            found.push(time_of(*count, call));
+        }
     }
-    found.map(|mut times| {
-        times.sort_by(f64::total_cmp);
-        times[TURNS / 2]
+    timed.map(|(_, _, mut found)| {
+        found.sort_by(f64::total_cmp);
+        found[TURNS / 2]
     })
 }
 
 /// How many calls fill the time; at least one.
-fn calls_in(share: Duration, call: &mut impl FnMut()) -> usize {
+fn calls_in(share: Duration, call: &mut dyn FnMut()) -> usize {
     let begun = Instant::now();
     let mut calls = 0;
     while calls == 0 || begun.elapsed() < share {
@@ -155,7 +184,7 @@ fn calls_in(share: Duration, call: &mut impl FnMut()) -> usize {
     calls
 }
 
-fn time_of(calls: usize, call: &mut impl FnMut()) -> f64 {
+fn time_of(calls: usize, call: &mut dyn FnMut()) -> f64 {
     let begun = Instant::now();
     (0..calls).for_each(|_| call());
     begun.elapsed().as_secs_f64() / calls as f64

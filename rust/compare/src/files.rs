@@ -2,7 +2,8 @@
 
 use crate::lent::{noise, Lent, Word};
 use crate::proved::Side;
-use crate::{hex, Compared};
+use crate::Compared;
+use generate::hex::{hex, wide};
 use generate::random::Random;
 use generate::writing::Task;
 use second::Answer;
@@ -83,9 +84,7 @@ fn kept(inputs: &[bool], answer: Compared<Answer>) -> Compared<Answer> {
 }
 
 fn spelled(task: &Task) -> String {
-    let wide = |fields: &[u16]| {
-        hex(&fields.iter().flat_map(|field| field.to_be_bytes()).collect::<Vec<u8>>())
-    };
+    let list = |fields: &[u16]| hex(&wide(fields));
     match task {
         Task::ReadBook { book, room } => format!("read-book, room {room}\nbook {}", hex(book)),
         Task::ReadCertificate { book, certificate, room } => {
@@ -93,10 +92,10 @@ fn spelled(task: &Task) -> String {
             format!("read-certificate, room {room}\nbook {book}\ncertificate {certificate}")
         }
         Task::WriteBook { fields, room } => {
-            format!("write-book, room {room}\nfields {}", wide(fields))
+            format!("write-book, room {room}\nfields {}", list(fields))
         }
         Task::WriteCertificate { book, fields, room } => {
-            let (book, fields) = (hex(book), wide(fields));
+            let (book, fields) = (hex(book), list(fields));
             format!("write-certificate, room {room}\nbook {book}\nfields {fields}")
         }
     }

@@ -1,7 +1,8 @@
 //! Follows accepted certificates: plays the derivation that is promised, and checks
 //! each step by plain matching.
 
-use crate::{hex, Compared};
+use crate::Compared;
+use generate::hex::hex;
 use generate::random::Random;
 use second::derive::{derive, replay, CannotStart, Limits};
 use second::files::parse_both;

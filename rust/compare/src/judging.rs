@@ -1,8 +1,9 @@
-//! Both judges on one input.
+//! All judges on one input.
 
 use crate::lent::{noise, Lent};
 use crate::proved::Side;
-use crate::{hex, Compared};
+use crate::Compared;
+use generate::hex::hex;
 use generate::inputs::{Input, Kind};
 use generate::random::Random;
 use second::judging::WORK_NUMBERS;
@@ -33,35 +34,60 @@ fn work_length(random: &mut Random) -> usize {
     }
 }
 
-/// Judges by both, over a work table full of noise. The answer is the second's.
+/// A judge that is compared with the second.
+pub type Judging<'a> = dyn FnMut(&[u8], &[u8], &mut [u64]) -> Verdict + 'a;
+
+/// Judges by the second and by each of these judges, over a work table full of noise. The
+/// answer is the second's.
+pub fn judge_all(
+    judges: &mut [(&str, &mut Judging)],
+    book: &[u8],
+    certificate: &[u8],
+    random: &mut Random,
+) -> Compared<Verdict> {
+    let before: Vec<u64> = noise(work_length(random), random);
+    let mut work = before.clone();
+    let verdict = second::judge(book, certificate, &mut work);
+    for (name, judge) in judges {
+        one_judge(judge, book, certificate, &before, (verdict, &work), random).map_err(|fault| {
+            let (book, certificate, length) = (hex(book), hex(certificate), before.len());
+            format!("judge, {length} work numbers\nbook {book}\ncertificate {certificate}\n{name}: {fault}")
+        })?;
+    }
+    Ok(verdict)
+}
+
+/// The same with one side beside the second.
 pub fn judge_both(
     side: &impl Side,
     book: &[u8],
     certificate: &[u8],
     random: &mut Random,
 ) -> Compared<Verdict> {
-    let length = work_length(random);
-    let before: Vec<u64> = noise(length, random);
-    let mut expected_work = before.clone();
-    let expected = second::judge(book, certificate, &mut expected_work);
+    let judge: &mut Judging = &mut |book, certificate, work| side.judge(book, certificate, work);
+    judge_all(&mut [("side", judge)], book, certificate, random)
+}
 
+/// Judges once, and compares the verdict and all lent memory.
+fn one_judge(
+    judge: &mut Judging,
+    book: &[u8],
+    certificate: &[u8],
+    before: &[u64],
+    (expected, expected_work): (Verdict, &[u64]),
+    random: &mut Random,
+) -> Compared<()> {
     let lent_book = Lent::new(book, random);
     let lent_certificate = Lent::new(certificate, random);
-    let mut lent_work = Lent::new(&before, random);
-    let found = side.judge(lent_book.content(), lent_certificate.content(), lent_work.lend());
-
-    let words = || {
-        let (book, certificate) = (hex(book), hex(certificate));
-        format!("judge, {length} work numbers\nbook {book}\ncertificate {certificate}")
-    };
+    let mut lent_work = Lent::new(before, random);
+    let found = judge(lent_book.content(), lent_certificate.content(), lent_work.lend());
     if found != expected {
-        return Err(format!("{}\nfound {found:?}\nexpected {expected:?}", words()));
+        Err(format!("found {found:?}\nexpected {expected:?}"))
+    } else if !lent_work.holds(expected_work) {
+        Err("the work table or its guards differ".to_string())
+    } else if !lent_book.holds(book) || !lent_certificate.holds(certificate) {
+        Err("a file or its guards changed".to_string())
+    } else {
+        Ok(())
     }
-    if !lent_work.holds(&expected_work) {
-        return Err(format!("{}\nthe work table or its guards differ", words()));
-    }
-    if !lent_book.holds(book) || !lent_certificate.holds(certificate) {
-        return Err(format!("{}\na file or its guards changed", words()));
-    }
-    Ok(expected)
 }

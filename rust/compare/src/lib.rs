@@ -1,6 +1,6 @@
 //! Runs the proved side, through its bindings, and the second implementation on the
 //! same inputs, and compares all that can be seen: answers, and every word of lent
-//! memory with guards around it.
+//! memory with guards around it. The swift judge judges these inputs as well.
 
 pub mod answers;
 pub mod coverage;
@@ -10,15 +10,8 @@ pub mod judging;
 pub mod lent;
 pub mod program;
 pub mod proved;
+pub mod swiftly;
 
 /// What was different, in words, with all that is needed to see it again.
 pub type Difference = String;
 pub type Compared<T> = Result<T, Difference>;
-
-/// Two digits for each byte; a lone hyphen for nothing at all.
-pub fn hex(bytes: &[u8]) -> String {
-    if bytes.is_empty() {
-        return "-".to_string();
-    }
-    bytes.iter().map(|byte| format!("{byte:02x}")).collect()
-}

@@ -6,9 +6,10 @@ use compare::answers::answers_in_numbers;
 use compare::coverage::{wanted_of_files, wanted_of_judging, wanted_of_the_program, Coverage};
 use compare::files::perform_both;
 use compare::follow::Followed;
-use compare::judging::{files_of, judge_both};
+use compare::judging::{files_of, judge_all, Judging};
 use compare::program::{run_both, Feeding};
-use compare::proved::Proved;
+use compare::proved::{Proved, Side};
+use compare::swiftly::Swift;
 use compare::Compared;
 use generate::inputs::{Inputs, Kind};
 use generate::random::Random;
@@ -95,14 +96,20 @@ fn compared(options: &Options) -> Compared<usize> {
     }
 }
 
+/// The proved judge and the swift one beside the second.
 fn judgings(options: &Options, coverage: &mut Coverage) -> Compared<Followed> {
     let mut inputs = Inputs::new(options.seed);
     let mut random = Random::new(!options.seed);
     let mut followed = Followed::default();
+    let mut swift = Swift::default();
+    let judges: &mut [(&str, &mut Judging)] = &mut [
+        ("proved", &mut |book, certificate, work| Proved.judge(book, certificate, work)),
+        ("swift", &mut |book, certificate, work| swift.judge(book, certificate, work)),
+    ];
     for number in 0..options.inputs {
         let input = inputs.next_input();
         let (book, certificate) = files_of(&input);
-        let one = judge_both(&Proved, book, certificate, &mut random).and_then(|verdict| {
+        let one = judge_all(judges, book, certificate, &mut random).and_then(|verdict| {
             coverage.judged(book, certificate, &verdict);
             if let Verdict::Accepted { .. } = verdict {
                 followed.follow(book, certificate, &mut random)?;

@@ -1,6 +1,7 @@
 //! The program `judge`, run on inputs in its own framing.
 
-use crate::{hex, Compared};
+use crate::Compared;
+use generate::hex::hex;
 use second::{judge_input, verdict_line, Verdict};
 use std::io::{Error, ErrorKind, Result, Write};
 use std::os::fd::OwnedFd;
@@ -46,8 +47,8 @@ fn output_of(program: &Path, input: &[u8], feeding: Feeding) -> Result<String> {
         Feeding::Pieces(size) => {
             let (ours, theirs) = UnixDatagram::pair()?;
             let child = run(OwnedFd::from(theirs).into())?;
-            let pieces = input.chunks(size).chain([&[][..]]);
-            let fed = pieces.map(|piece| ours.send(piece).map(drop)).collect();
+            let mut pieces = input.chunks(size).chain([&[][..]]);
+            let fed = pieces.try_for_each(|piece| ours.send(piece).map(drop));
             (child, fed)
         }
     };

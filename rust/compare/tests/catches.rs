@@ -1,9 +1,10 @@
 //! The comparison notices wrong sides and wrong programs.
 
 use compare::files::perform_both;
-use compare::judging::judge_both;
+use compare::judging::{judge_all, judge_both, Judging};
 use compare::program::{run_both, Feeding};
 use compare::proved::{Proved, Side};
+use compare::swiftly::Swift;
 use generate::random::Random;
 use generate::writing::Task;
 use second::{Answer, Verdict};
@@ -60,9 +61,34 @@ fn differences(side: &impl Side) -> usize {
     (0..500).filter(|_| judge_both(side, &BOOK, &CERTIFICATE, &mut random).is_err()).count()
 }
 
+/// The same for a judge that stands behind a right one.
+fn differences_behind(judge: &mut Judging) -> usize {
+    let mut random = Random::new(1);
+    let right: &mut Judging = &mut |book, certificate, work| Proved.judge(book, certificate, work);
+    let judges: &mut [(&str, &mut Judging)] = &mut [("right", right), ("tried", judge)];
+    (0..500).filter(|_| judge_all(judges, &BOOK, &CERTIFICATE, &mut random).is_err()).count()
+}
+
 #[test]
 fn nothing_is_found_in_the_proved_side() {
     assert_eq!(differences(&Proved), 0);
+}
+
+#[test]
+fn nothing_is_found_in_the_swift_judge() {
+    let mut swift = Swift::default();
+    assert_eq!(
+        differences_behind(&mut |book, certificate, work| swift.judge(book, certificate, work)),
+        0
+    );
+}
+
+/// It is given another certificate than the others are.
+#[test]
+fn a_swift_judge_that_is_wrong_is_found() {
+    let mut swift = Swift::default();
+    let other = [&CERTIFICATE[..], &[0]].concat();
+    assert!(differences_behind(&mut |book, _, work| swift.judge(book, &other, work)) > 400);
 }
 
 #[test]

@@ -1,8 +1,8 @@
 //! Damage at bit, byte, field and tree level.
 
-use crate::faults::node_at;
+use crate::nudge::node_at;
 use crate::random::Random;
-use crate::scramble::{each_term, parts_of, rule_of};
+use crate::visit::{each_term, parts_of, rule_of};
 use crate::world::Case;
 use second::spell::Field;
 use second::Term;

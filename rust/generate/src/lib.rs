@@ -3,11 +3,15 @@
 
 pub mod damage;
 pub mod faults;
+pub mod hex;
 pub mod inputs;
+pub mod large;
+pub mod nudge;
 pub mod random;
 pub mod scramble;
 pub mod shapes;
 pub mod solve;
 pub mod tally;
+pub mod visit;
 pub mod world;
 pub mod writing;

@@ -1,5 +1,6 @@
 //! Prints counts or the inputs themselves with the second judge's answers.
 
+use generate::hex::{hex, wide};
 use generate::inputs::Inputs;
 use generate::tally::tally;
 use generate::writing::{Outcome, Task, Tasks};
@@ -109,16 +110,4 @@ fn outcome(outcome: &Outcome) -> String {
 
 fn refusal_line(refusal: &Refusal) -> String {
     verdict_line(&Verdict::Refused(*refusal))
-}
-
-fn wide(fields: &[u16]) -> Vec<u8> {
-    fields.iter().flat_map(|field| field.to_be_bytes()).collect()
-}
-
-/// Two digits for each byte; a lone hyphen for nothing at all.
-fn hex(bytes: &[u8]) -> String {
-    if bytes.is_empty() {
-        return "-".to_string();
-    }
-    bytes.iter().map(|byte| format!("{byte:02x}")).collect()
 }

@@ -2,6 +2,7 @@
 
 use crate::random::Random;
 use crate::solve::{filling_of, solve, Bindings};
+pub use second::making::{fun, rule, use_of, var};
 use second::{Book, Certificate, Closing, Filling, Line, Proof, Rule, Term, Use};
 
 pub const MOST_LINES: usize = 255;
@@ -17,22 +18,6 @@ pub struct World {
 pub struct Case {
     pub book: Book,
     pub certificate: Certificate,
-}
-
-pub fn var(name: u8) -> Term {
-    Term::Var(name)
-}
-
-pub fn fun(symbol: u8, arguments: &[Term]) -> Term {
-    Term::Fun(symbol, arguments.to_vec())
-}
-
-pub fn rule(head: Term, calls: &[Term]) -> Rule {
-    Rule { head, calls: calls.to_vec() }
-}
-
-pub fn use_of(line: usize, i: u64, j: u64, filling: &[(u8, Term)]) -> Use {
-    Use { line: line as u8, i, j, filling: filling.to_vec() }
 }
 
 /// May the term stand in a certificate?

@@ -8,6 +8,7 @@ pub mod derive;
 pub mod files;
 pub mod grammar;
 pub mod judging;
+pub mod making;
 pub mod model;
 pub mod replay;
 pub mod source;

@@ -1,7 +1,10 @@
 //! Short names for building books and certificates in tests.
 #![allow(dead_code)]
 
-use second::spell::{book_fields, certificate_fields, pack, values, Field};
+pub use second::making::{fun as f, rule, use_of, var as v};
+use second::spell::{
+    book_fields, certificate_fields, pack, pack_book, pack_certificate, values, Field,
+};
 use second::*;
 
 pub const GT: u8 = 0;
@@ -15,14 +18,6 @@ pub const X: u8 = 0;
 pub const Y: u8 = 1;
 pub const Z: u8 = 2;
 
-pub fn v(name: u8) -> Term {
-    Term::Var(name)
-}
-
-pub fn f(symbol: u8, arguments: &[Term]) -> Term {
-    Term::Fun(symbol, arguments.to_vec())
-}
-
 pub fn p(symbol: u8, a: u64, b: u64, arg: Term) -> Term {
     Term::pow(symbol, a, b, arg)
 }
@@ -34,14 +29,6 @@ pub fn s(a: u64, b: u64, arg: Term) -> Term {
 
 pub fn zero() -> Term {
     f(ZERO, &[])
-}
-
-pub fn rule(head: Term, calls: &[Term]) -> Rule {
-    Rule { head, calls: calls.to_vec() }
-}
-
-pub fn use_of(line: u8, i: u64, j: u64, filling: &[(u8, Term)]) -> Use {
-    Use { line, i, j, filling: filling.to_vec() }
 }
 
 pub fn unfold(
@@ -133,9 +120,7 @@ pub fn work() -> Vec<u64> {
 
 /// Judges trees by way of the packed files.
 pub fn judge_trees(book: &Book, certificate: &Certificate) -> Verdict {
-    let book = pack(&book_fields(book));
-    let certificate = pack(&certificate_fields(certificate));
-    judge_bytes(&book, &certificate)
+    judge_bytes(&pack_book(book), &pack_certificate(certificate))
 }
 
 pub fn judge_bytes(book: &[u8], certificate: &[u8]) -> Verdict {
@@ -162,41 +147,34 @@ pub fn raw(fields: &[(u16, u32)]) -> Vec<Field> {
     fields.iter().map(|(value, width)| Field { value: *value, width: *width }).collect()
 }
 
-/// Reads with an ample output and shows that a refusal changes none of it.
-pub fn read_b(book: &[u8]) -> Answer {
-    let mut out = vec![9u16; 200_000];
-    let answer = read_book(book, &mut out);
+/// An operation with an ample output; a refusal changes none of it.
+fn with_room<T: Copy + PartialEq>(
+    room: usize,
+    fresh: T,
+    call: impl Fn(&mut [T]) -> Answer,
+) -> Answer {
+    let mut out = vec![fresh; room];
+    let answer = call(&mut out);
     if let Answer::Refused(_) = answer {
-        assert!(out.iter().all(|place| *place == 9));
+        assert!(out.iter().all(|place| *place == fresh));
     }
     answer
+}
+
+pub fn read_b(book: &[u8]) -> Answer {
+    with_room(200_000, 9, |out| read_book(book, out))
 }
 
 pub fn read_c(book: &[u8], certificate: &[u8]) -> Answer {
-    let mut out = vec![9u16; 200_000];
-    let answer = read_certificate(book, certificate, &mut out);
-    if let Answer::Refused(_) = answer {
-        assert!(out.iter().all(|place| *place == 9));
-    }
-    answer
+    with_room(200_000, 9, |out| read_certificate(book, certificate, out))
 }
 
 pub fn write_b(fields: &[u16]) -> Answer {
-    let mut out = vec![9u8; 40_000];
-    let answer = write_book(fields, &mut out);
-    if let Answer::Refused(_) = answer {
-        assert!(out.iter().all(|place| *place == 9));
-    }
-    answer
+    with_room(40_000, 9, |out| write_book(fields, out))
 }
 
 pub fn write_c(book: &[u8], fields: &[u16]) -> Answer {
-    let mut out = vec![9u8; 40_000];
-    let answer = write_certificate(book, fields, &mut out);
-    if let Answer::Refused(_) = answer {
-        assert!(out.iter().all(|place| *place == 9));
-    }
-    answer
+    with_room(40_000, 9, |out| write_certificate(book, fields, out))
 }
 
 pub fn book_list(book: &Book) -> Vec<u16> {

@@ -1,0 +1,6 @@
+//! What the generator promises, shown on many inputs.
+
+mod files;
+mod inputs;
+mod meaning;
+mod running;
