@@ -10,33 +10,33 @@ use borrow.Author.Tests.{ltb-true}
 use lib.Dec.{ltb}
 use lib.ListN.{getElem?}
 use Rattle.patterns.specs.Every.{Every}
-use Rattle.patterns.specs.Refusal.{Refusal, neither-place}
+use Rattle.patterns.specs.Reason.{Reason, neither-place}
 use Rattle.answers.specs.Carried.{refusal-at, Carries}
 use Rattle.answers.proofs.Carrying.{carried-field, carried-part, carried-nothing}
-use Rattle.answers.specs.InTable.{Column, only, from-to, Allows, Row, row, InRow, Among, refusal-rows, InTable}
+use Rattle.answers.specs.InTable.{Column, only, span, Allows, Row, row, InRow, Among, refusal-rows, InTable}
 
 -- ---- rows
 
-pub among-at : (k : ℕ) (rows : List Row) (q : Row) (r : Refusal) → getElem? rows k ≡ some q → InRow q r → Among rows r
+pub among-at : (k : ℕ) (rows : List Row) (q : Row) (r : Reason) → getElem? rows k ≡ some q → InRow q r → Among rows r
 unfolding Among
 among-at k [] q r e h = absurd (Option·none-ne-some q e)
 among-at zero (p ∷ rows) q r e h = inl (subst (λ x. InRow x r) (sym (Option·some-injective p q e)) h)
 among-at (suc k) (p ∷ rows) q r e h = inr (among-at k rows q r e h)
 
-pub among-first : (ps qs : List Row) (r : Refusal) → Among ps r → Among (ps ++ qs) r
+pub among-first : (ps qs : List Row) (r : Reason) → Among ps r → Among (ps ++ qs) r
 unfolding Among
 among-first [] qs r h = absurd h
 among-first (p ∷ ps) qs r (inl h) = inl h
 among-first (p ∷ ps) qs r (inr h) = inr (among-first ps qs r h)
 
-pub among-rest : (ps qs : List Row) (r : Refusal) → Among qs r → Among (ps ++ qs) r
+pub among-rest : (ps qs : List Row) (r : Reason) → Among qs r → Among (ps ++ qs) r
 unfolding Among
 among-rest [] qs r h = h
 among-rest (p ∷ ps) qs r h = inr (among-rest ps qs r h)
 
 -- what every row shows of its refusals, all rows show
-pub among-shows : (P : Refusal → Type 0) (rows : List Row) → Every (λ q. (r : Refusal) → InRow q r → P r) rows
-    → (r : Refusal) → Among rows r → P r
+pub among-shows : (P : Reason → Type 0) (rows : List Row) → Every (λ q. (r : Reason) → InRow q r → P r) rows
+    → (r : Reason) → Among rows r → P r
 unfolding Among Every
 among-shows P [] f r h = absurd h
 among-shows P (q ∷ rows) f r (inl h) = f .0 r h
@@ -44,18 +44,18 @@ among-shows P (q ∷ rows) f r (inr h) = among-shows P rows (f .1) r h
 
 -- ---- what a refusal carries
 
-bare : {n w : Column} (r : Refusal) → InRow (row n w (only 0) (only 0)) r → Carries r
+bare : {n w : Column} (r : Reason) → InRow (row n w (only 0) (only 0)) r → Carries r
 unfolding Allows Carries
 bare r h = rw (h .a, h .b) (carried-nothing (r .number) (r .w))
 
-placed : {w a : Column} (r : Refusal) → InRow (row (from-to 3 7) w a (only 0)) r → Carries r
+placed : {w a : Column} (r : Reason) → InRow (row (span 3 7) w a (only 0)) r → Carries r
 unfolding Allows Carries
 placed r h =
     carried-field (r .w) (r .a) (r .b) (h .number .0) (omega (arith, h .number .1))
     ∙ λ i. record { number = r .number; w = r .w; a = r .a; b = sym (h .b) i }
 
 -- 9 to 16
-parted : {n : ℕ} {w a b : Column} → ltb 8 n ≡ true → ltb n 17 ≡ true → (r : Refusal) → InRow (row (only n) w a b) r → Carries r
+parted : {n : ℕ} {w a b : Column} → ltb 8 n ≡ true → ltb n 17 ≡ true → (r : Reason) → InRow (row (only n) w a b) r → Carries r
 unfolding Allows Carries
 parted {n} e f r h =
     let l = ltb-true 8 n e in
@@ -64,7 +64,7 @@ parted {n} e f r h =
     carried-part (r .w) (r .a) (r .b) (omega arith) (omega arith)
 
 -- A refusal that is in the table carries what its number says, and nothing else.
-pub in-table-carries : (r : Refusal) → InTable r → Carries r
+pub in-table-carries : (r : Reason) → InTable r → Carries r
 unfolding InTable Every
 in-table-carries =
     among-shows Carries refusal-rows (

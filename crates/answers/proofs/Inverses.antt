@@ -4,12 +4,12 @@ use mathlib.Core.Path.{_≡_, refl, sym, _∙_, ap}
 use mathlib.Core.List.{List, [], _∷_}
 use lib.ListN.{getD}
 use Rattle.patterns.specs.First.{Pace}
-use Rattle.patterns.specs.Refusal.{Refusal}
-use Rattle.patterns.specs.Judge.{Verdict, accept, refuse}
+use Rattle.patterns.specs.Reason.{Reason}
+use Rattle.patterns.specs.Judge.{Ruling, accept, refuse}
 use Rattle.answers.specs.declared.W.{W}
 use Rattle.answers.specs.declared.W.the-variants.{Book, Certificate, Line, Closing, Neither}
-use Rattle.answers.specs.declared.Refusal.{Refusal as Fault}
-use Rattle.answers.specs.declared.Verdict.{Verdict as Ruling}
+use Rattle.answers.specs.declared.Refusal.{Refusal}
+use Rattle.answers.specs.declared.Verdict.{Verdict}
 use Rattle.answers.specs.declared.Verdict.the-variants.{Accepted, Refused as Denied}
 use Rattle.answers.specs.declared.Answer.{Answer}
 use Rattle.answers.specs.declared.Answer.the-variants.{Filled, Refused}
@@ -38,20 +38,20 @@ w-back Neither = refl
 
 -- ---- a refusal
 
-abbrev code-refusal : Refusal → Fault
+abbrev code-refusal : Reason → Refusal
 code-refusal r = record { number = r .number; w = w-at (r .w); a = r .a; b = r .b }
 
-refusal-back : (r : Fault) → code-refusal (paper-refusal r) ≡ r
+refusal-back : (r : Refusal) → code-refusal (paper-refusal r) ≡ r
 unfolding paper-refusal
 refusal-back r = λ i. record { number = r .number; w = w-back (r .w) i; a = r .a; b = r .b }
 
 -- ---- a verdict, and what reading and writing answer
 
-abbrev code-verdict : Verdict Pace → Ruling
+abbrev code-verdict : Ruling Pace → Verdict
 code-verdict (accept line pace) = Accepted (record { line = line; k = pace .k; alpha = pace .α })
 code-verdict (refuse r) = Denied (code-refusal r)
 
-verdict-back : (v : Ruling) → code-verdict (paper-verdict v) ≡ v
+verdict-back : (v : Verdict) → code-verdict (paper-verdict v) ≡ v
 unfolding paper-verdict paper-pace
 verdict-back (Accepted a) = refl
 verdict-back (Denied r) = ap Denied (refusal-back r)
@@ -70,10 +70,10 @@ pub answer-tells : (p q : Answer) → paper-answer p ≡ paper-answer q → p �
 answer-tells = inverse-tells paper-answer code-answer answer-back
 
 -- and two verdicts with the same numbers the same verdict.
-pub verdict-tells : (p q : Ruling) → paper-verdict p ≡ paper-verdict q → p ≡ q
+pub verdict-tells : (p q : Verdict) → paper-verdict p ≡ paper-verdict q → p ≡ q
 verdict-tells = inverse-tells paper-verdict code-verdict verdict-back
 
 -- Two verdicts with their tables, where 01's numbers and what is left are determined, are the same.
-pub one-verdict : {v : Verdict Pace} {left : List ℕ} (p q : Ruling) {after other : List ℕ}
+pub one-verdict : {v : Ruling Pace} {left : List ℕ} (p q : Verdict) {after other : List ℕ}
     → (paper-verdict p ≡ v) × (after ≡ left) → (paper-verdict q ≡ v) × (other ≡ left) → (p ≡ q) × (after ≡ other)
 one-verdict p q h k = (verdict-tells p q (h .0 ∙ sym (k .0)), h .1 ∙ sym (k .1))

@@ -1,13 +1,13 @@
 -- The code's answers in 01's numbers: "a definition provides this paper's number and values for each of the enum's cases".
 use Prim.Native.Nat.{ℕ}
 use Rattle.patterns.specs.First.{Pace}
-use Rattle.patterns.specs.Refusal.{Refusal, book-place, certificate-place, line-place, closing-place, neither-place}
-use Rattle.patterns.specs.Judge.{Verdict, accept, refuse}
+use Rattle.patterns.specs.Reason.{Reason, book-place, certificate-place, line-place, closing-place, neither-place}
+use Rattle.patterns.specs.Judge.{Ruling, accept, refuse}
 use Rattle.answers.specs.declared.W.{W}
 use Rattle.answers.specs.declared.W.the-variants.{Book, Certificate, Line, Closing, Neither}
-use Rattle.answers.specs.declared.Refusal.{Refusal as Fault}
+use Rattle.answers.specs.declared.Refusal.{Refusal}
 use Rattle.answers.specs.declared.Acceptance.{Acceptance}
-use Rattle.answers.specs.declared.Verdict.{Verdict as Ruling}
+use Rattle.answers.specs.declared.Verdict.{Verdict}
 use Rattle.answers.specs.declared.Verdict.the-variants.{Accepted, Refused as Denied}
 use Rattle.answers.specs.declared.Answer.{Answer}
 use Rattle.answers.specs.declared.Answer.the-variants.{Filled, Refused}
@@ -21,21 +21,21 @@ w-of Closing = closing-place
 w-of Neither = neither-place
 
 -- 01: "A refusal carries its number, W [..], A and B."
-unfoldable pub paper-refusal : Fault → Refusal
+unfoldable pub paper-refusal : Refusal → Reason
 paper-refusal r = record { number = r .number; w = w-of (r .w); a = r .a; b = r .b }
 
 -- 01: "An accepting answer gives the line, k and α."
 unfoldable pub paper-pace : Acceptance → Pace
 paper-pace a = record { k = a .k; α = a .alpha }
 
-unfoldable pub paper-verdict : Ruling → Verdict Pace
+unfoldable pub paper-verdict : Verdict → Ruling Pace
 paper-verdict (Accepted a) = accept (a .line) (paper-pace a)
 paper-verdict (Denied r) = refuse (paper-refusal r)
 
 -- what reading and writing answer: "they answer the number of places filled"
 pub data Told : Type 0 where
   filled-with : ℕ → Told
-  refused-with : Refusal → Told
+  refused-with : Reason → Told
 
 unfoldable pub paper-answer : Answer → Told
 paper-answer (Filled n) = filled-with n

@@ -13,7 +13,7 @@ use Rattle.patterns.proofs.Earlier.{listed-below}
 use Rattle.table.specs.Sides.{Kept}
 use Rattle.instances.proofs.Entries.{entry-same, fills-same}
 use Rattle.begins.specs.declared.Instance.{Instance}
-use Rattle.instances.specs.Fillings.{unlisted, Fills as Tells}
+use Rattle.instances.specs.Fillings.{unlisted, FillsTold}
 use Rattle.begins.specs.Placed.{RuleAt, ClaimAt}
 use Rattle.begins.specs.Known.{Below, Known, Scene, Uses}
 
@@ -31,11 +31,11 @@ kept-below c = record { size = c .size; low = c .low }
 
 -- ---- fillings
 
-pub tells-below : {n fills : ℕ} {book cert w v : List ℕ} {θ : Filling Exp} → fills + 64 ≤ n → Below n w v → Tells book cert w fills θ → Tells book cert v fills θ
+pub tells-below : {n fills : ℕ} {book cert w v : List ℕ} {θ : Filling Exp} → fills + 64 ≤ n → Below n w v → FillsTold book cert w fills θ → FillsTold book cert v fills θ
 tells-below h b t = fills-same _ _ _ (λ k p q. b .low k (omega arith)) t
 
-pub tells-above : {base room fills : ℕ} {book cert w v : List ℕ} {θ : Filling Exp} → base + room ≤ fills → Kept base room w v → Tells book cert w fills θ
-    → Tells book cert v fills θ
+pub tells-above : {base room fills : ℕ} {book cert w v : List ℕ} {θ : Filling Exp} → base + room ≤ fills → Kept base room w v → FillsTold book cert w fills θ
+    → FillsTold book cert v fills θ
 tells-above h c t = fills-same _ _ _ (λ k p q. c .high k (omega arith)) t
 
 -- ---- rules and claims
@@ -63,5 +63,5 @@ pub uses-below : {book cert w v ars : List ℕ} {u : Use Exp Pair} {c : Claim Ex
 uses-below b h = record { claim-at = h .claim-at; i = h .i; j = h .j; used = tells-below (omega arith) b (h .used) }
 
 -- no filling is a table of zeros
-pub bare-tells : {book cert w ars : List ℕ} {B : Book Exp} {es : List (Claim Exp)} → Known book cert w ars B es → Tells book cert w EMPTY var
+pub bare-tells : {book cert w ars : List ℕ} {B : Book Exp} {es : List (Claim Exp)} → Known book cert w ars B es → FillsTold book cert w EMPTY var
 bare-tells k = record { each = λ x. unlisted (k .bare x) }

@@ -19,17 +19,17 @@ use Rattle.table.proofs.Sides.{kept-wider}
 use Rattle.table.proofs.Writes.{kept-self, kept-then}
 use Rattle.instances.specs.declared.Read.{Read}
 use Rattle.instances.specs.Lying.{Lies, Known-arities}
-use Rattle.begins.specs.Placed.{RuleAt, PassesRule, Notes, Indexes}
+use Rattle.begins.specs.Placed.{RuleAt, PassesRule, NotesRules, Indexes}
 use Rattle.instances.specs.Taking.{Takes}
 use Rattle.instances.proofs.Lying.{lies-rest, lies-front, lies-back}
 
--- what `Notes` tells
+-- what `NotesRules` tells
 abbrev NotesTold : List ℕ → (at k n : ℕ) → List ℕ → Type 0
 NotesTold book at k n after =
     (ars : List ℕ) (rs : Book Exp) → Known-arities book ars → length rs ≡ n → Every (RuleFits ars) rs
     → Lies book at (flatMap rule-fields rs) → (i : ℕ) (r : Rule Exp) → getElem? rs i ≡ some r → RuleAt book ars (getD after (k + i) 0) r
 
-pub notes-none : (book : List ℕ) (at k n : ℕ) (w : List ℕ) → n ≡ 0 → Notes book at k n w w
+pub notes-none : (book : List ℕ) (at k n : ℕ) (w : List ℕ) → n ≡ 0 → NotesRules book at k n w w
 notes-none book at k n w e = record { told = go; kept = kept-self k n w }
   where
     go : NotesTold book at k n w
@@ -45,7 +45,7 @@ kept-word w k v = record {
 }
 
 pub notes-one : (book : List ℕ) (at k n next : ℕ) (w after : List ℕ) → n ≢ 0 → k < length w → PassesRule book at next
-    → Notes book next (k + 1) (n - 1) (set w k at) after → Notes book at k n w after
+    → NotesRules book next (k + 1) (n - 1) (set w k at) after → NotesRules book at k n w after
 unfolding flatMap Every
 notes-one book at k n next w after ne room passes rest = record {
   told = go;
@@ -75,7 +75,7 @@ width-arities [] = refl
 width-arities (a ∷ ars) = omega (arith, width-arities ars)
 
 pub indexes : (book w after : List ℕ) (c d : Read) → Takes book 8 0 c → Takes book 8 (8 + 4 * c .value) d
-    → Notes book (d .at) 0 (d .value) w after → Indexes book w after
+    → NotesRules book (d .at) 0 (d .value) w after → Indexes book w after
 unfolding book-fields signature-fields width
 indexes book w after c d t u h = record {
   told = λ b a f l i r q.

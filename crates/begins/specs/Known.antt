@@ -13,7 +13,7 @@ use Rattle.grammar.specs.Limits.{UseFits}
 use Rattle.table.specs.Places.{LEFTS, RIGHTS, ROWS, EMPTY, OWN, USED}
 use Rattle.begins.specs.declared.Instance.{Instance}
 use Rattle.instances.specs.Lying.{Lies, Known-arities}
-use Rattle.instances.specs.Fillings.{entry, Fills as Tells}
+use Rattle.instances.specs.Fillings.{entry, FillsTold}
 use Rattle.begins.specs.Placed.{RuleAt, ClaimAt}
 
 -- no word below n has changed
@@ -33,14 +33,14 @@ pub record Known (book cert w ars : List ℕ) (B : Book Exp) (es : List (Claim E
 -- and the line's own filling
 pub record Scene (book cert w ars : List ℕ) (B : Book Exp) (es : List (Claim Exp)) (θ : Fills Exp) : Type 0 where
   pub known : Known book cert w ars B es
-  pub own : Tells book cert w OWN (by θ)
+  pub own : FillsTold book cert w OWN (by θ)
 
 -- a use was read: it names the claim c, and its filling stands in the table
 pub record Uses (book cert w ars : List ℕ) (u : Use Exp Pair) (c : Claim Exp) (r : Instance) : Type 0 where
   pub claim-at : ClaimAt cert ars (r .left) (r .right) c
   pub i : r .i ≡ u .index .0
   pub j : r .j ≡ u .index .1
-  pub used : Tells book cert w USED (by (u .fills))
+  pub used : FillsTold book cert w USED (by (u .fills))
 
 -- the use that lies at a bit
 pub record ReadsUse (book cert : List ℕ) (at : ℕ) (w after : List ℕ) (r : Instance) : Type 0 where

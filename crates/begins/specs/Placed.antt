@@ -59,7 +59,7 @@ pub record ClaimAt (cert ars : List ℕ) (left right : ℕ) (c : Claim Exp) : Ty
   pub right-at : RightAt cert ars right (c .right)
 
 -- every rule's begin, of those that lie at a bit, stands in the table from k on
-pub record Notes (book : List ℕ) (at k n : ℕ) (w after : List ℕ) : Type 0 where
+pub record NotesRules (book : List ℕ) (at k n : ℕ) (w after : List ℕ) : Type 0 where
   pub told : (ars : List ℕ) (rs : Book Exp) → Known-arities book ars → length rs ≡ n → Every (RuleFits ars) rs
       → Lies book at (flatMap rule-fields rs) → (i : ℕ) (r : Rule Exp) → getElem? rs i ≡ some r → RuleAt book ars (getD after (k + i) 0) r
   pub kept : Kept k n w after

@@ -8,7 +8,7 @@ ghost use mathlib.Core.Path.{_≡_};
 ghost use Prim.Native.Nat.{_+_, _≤_, _<_};
 ghost use lib.ListN.{length, getD};
 ghost use Rattle.table.specs.Places.{WORDS, ROWS, EMPTY};
-ghost use Rattle.begins.specs.Placed.{Passes, PassesRule, PassesRight, Notes, Indexes};
+ghost use Rattle.begins.specs.Placed.{Passes, PassesRule, PassesRight, NotesRules, Indexes};
 ghost use Rattle.begins.specs.Known.{ReadsUse};
 
 // A use that was read: where both sides of its claim lie, its index pair, and the bit behind it.
@@ -43,7 +43,7 @@ fn pass_rule(book: &[u8], at: usize) -> usize
 // The begins of the n rules at a bit, noted from word k on.
 fn note_rules(book: &[u8], w: &mut [u64], at: usize, k: usize, n: usize)
     requires { ⌜ (k + n ≤ ROWS) × (WORDS ≤ length (now w)) ⌝ }
-    ensures { λ _. ⌜ Notes (now (book .entry)) at k n (now (w .entry)) (now (w .exit)) ⌝ }
+    ensures { λ _. ⌜ NotesRules (now (book .entry)) at k n (now (w .entry)) (now (w .exit)) ⌝ }
 {
     if n == 0 {
         return;

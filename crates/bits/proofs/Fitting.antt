@@ -7,7 +7,7 @@ use lib.Dec.{leb}
 use borrow.Author.Tests.{le-leb, lt-leb, leb-true}
 use native.Mathlib.Omega.{arith}
 use Rattle.bits.specs.declared.Cursor.{Cursor}
-use Rattle.bits.specs.declared.Field.the-variants.{Got, Past}
+use Rattle.bits.specs.declared.Taken.the-variants.{Got, Past}
 use Rattle.bits.specs.Bits.{bitsAt, fits, roomOf, readField}
 
 pub fits-yes : (s : List ℕ) (w at : ℕ) → w ≤ 16 → at + w ≤ roomOf s → fits s w at ≡ true

@@ -7,7 +7,7 @@ use native.Mathlib.Omega.{arith}
 use lib.ListN.{length, getD, length-append, List·getD-append, List·getD-eq-default}
 use lib.Seq.{getD-append-add}
 use Rattle.bits.specs.Bits.{Bytes, bitAt, bitsAt, readField}
-use Rattle.bits.specs.declared.Field.the-variants.{Got}
+use Rattle.bits.specs.declared.Taken.the-variants.{Got}
 use Rattle.bits.specs.Packed.{bitsOf, fieldBits, width, bytesFor, packed, Reads, Sized}
 use Rattle.bits.proofs.Bytes.{bits-of, bits-zero, bit-append}
 use Rattle.bits.proofs.Fitting.{read-yes}

@@ -5,8 +5,8 @@ use mathlib.Core.List.{List}
 use mathlib.Core.Bool.{Bool, _&&_, cond}
 use lib.ListN.{length, getD}
 use lib.Dec.{leb}
-use Rattle.bits.specs.declared.Field.{Field}
-use Rattle.bits.specs.declared.Field.the-variants.{Got, Past}
+use Rattle.bits.specs.declared.Taken.{Taken}
+use Rattle.bits.specs.declared.Taken.the-variants.{Got, Past}
 
 -- the byte at place i, 0 past the end
 abbrev pub byteAt : List ℕ → ℕ → ℕ
@@ -38,5 +38,5 @@ abbrev pub fits : List ℕ → ℕ → ℕ → Bool
 fits s w at = leb w 16 && leb (at + w) (roomOf s)
 
 -- the field of w bits at place `at` with the cursor past it, where it fits
-unfoldable pub readField : List ℕ → ℕ → ℕ → Field
+unfoldable pub readField : List ℕ → ℕ → ℕ → Taken
 readField s w at = cond (fits s w at) (Got (bitsAt s at w) (record { at = at + w })) Past

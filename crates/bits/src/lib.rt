@@ -13,7 +13,7 @@ pub struct Cursor {
 
 // What stands at a cursor: a field's value and the cursor past it; or `Past`, where the field begins or runs past the end.
 // A field of more than 16 bits is never there.
-pub enum Field {
+pub enum Taken {
     Got(u16, Cursor),
     Past,
 }
@@ -92,16 +92,16 @@ fn weave(x: u64, p: usize, w: usize, v: u16) -> u64
 
 impl Cursor {
     // The field of w bits that begins here.
-    pub fn take(self, w: usize, s: &[u8]) -> Field
+    pub fn take(self, w: usize, s: &[u8]) -> Taken
         ensures { λ r. ⌜ r ≡ readField (now (s .entry)) w (self .at) ⌝ }
     {
         let at = self.at;
         if has_room(s, w, at) {
             let x = window(s, at / 8);
             let v = (x >> (24 - at % 8 - w)) % (1 << w);
-            Field::Got(v as u16, Cursor { at: at + w })
+            Taken::Got(v as u16, Cursor { at: at + w })
         } else {
-            Field::Past
+            Taken::Past
         }
     }
 

@@ -7,12 +7,12 @@ use native.Mathlib.Omega.{arith}
 use lib.ListN.{length, set}
 use Rattle.patterns.specs.First.{Exp}
 use Rattle.patterns.specs.Derive.{Rule, Book}
-use Rattle.fields.specs.declared.Cursor.{Cursor}
+use Rattle.fields.specs.declared.Walker.{Walker}
 use Rattle.fields.specs.declared.Walk.{Walk}
 use Rattle.fields.specs.declared.Walk.the-variants.{On, No}
 use Rattle.fields.specs.Source.{Source}
 use Rattle.fields.specs.Kinds.{from-to}
-use Rattle.fields.specs.Kinds.{Kind as kind}
+use Rattle.fields.specs.Kinds.{FieldKind as kind}
 use Rattle.fields.specs.Grammar.{Grammar, done, bind, field}
 use Rattle.fields.specs.Run.{State, state, Result, run, Ran}
 use Rattle.fields.specs.Run.Result.{ok, no}
@@ -45,13 +45,13 @@ rule-calls ar n =
     (λ g. always-bind (λ ts. length ts ≡ n) (λ r. callsOf r ≡ n) _ (roots-of ar n) (many-length (roots-of ar) (root-term ar) (λ g. g .term) (roots-many ar) n) (λ ts h. h))
 
 -- so the walk may hand back that number
-pub rule-counted : {src : Source} (ar : ℕ → ℕ) (n : ℕ) {c d : Cursor} {ws bs ws₁ bs₁ : List ℕ} {r : Walk} {v : ℕ}
+pub rule-counted : {src : Source} (ar : ℕ → ℕ) (n : ℕ) {c d : Walker} {ws bs ws₁ bs₁ : List ℕ} {r : Walk} {v : ℕ}
     → Ran src (a-rule-of ar n) c ws bs nothing r ws₁ bs₁ → r ≡ On v d
     → Ran src (a-rule-of ar n) c ws bs callsOf (On n d) ws₁ bs₁
 rule-counted ar n h e = always-told h e callsOf n (rule-calls ar n)
 
 -- a rule has at most 8 calls
-pub rule-few : {src : Source} (ar : ℕ → ℕ) {c d : Cursor} {ws bs ws₁ bs₁ : List ℕ} {r : Walk} {n : ℕ}
+pub rule-few : {src : Source} (ar : ℕ → ℕ) {c d : Walker} {ws bs ws₁ bs₁ : List ℕ} {r : Walk} {n : ℕ}
     → Ran src (a-rule ar) c ws bs callsOf r ws₁ bs₁ → r ≡ On n d → n ≤ 8
 unfolding a-rule
 rule-few ar h e =
@@ -66,7 +66,7 @@ rules-step : (src : Source) (ar : ℕ → ℕ) (n : ℕ) (σ : State) → n ≢ 
     → run src (rules-of ar n) σ ≡ go-on src (λ r. bind (rules-of ar (n - 1)) λ rs. done (r ∷ rs)) (run src (a-rule ar) σ)
 rules-step src ar n σ h = ap (λ p. run src p σ) (some-left (rules-many ar) n 0 h) ∙ run-bind src _ (a-rule ar) σ
 
-module _ {src : Source} (ar : ℕ → ℕ) (n k : ℕ) {c : Cursor} {ws bs cs : List ℕ} where
+module _ {src : Source} (ar : ℕ → ℕ) (n k : ℕ) {c : Walker} {ws bs cs : List ℕ} where
   pub counted-none : n ≡ 0 → Counted src (rules-of ar n) (state c ws bs) k cs cs
   unfolding rules-of run noted call-counts
   counted-none h = rw (none-left (rules-many ar) n 0 h) (record { all = λ rs τ e. rw (empty rs τ e) refl })
@@ -74,7 +74,7 @@ module _ {src : Source} (ar : ℕ → ℕ) (n k : ℕ) {c : Cursor} {ws bs cs : 
       empty : (rs : Book Exp) (τ : State) → _≡_ {A = Result (Book Exp)} (ok [] (state c ws bs)) (ok rs τ) → rs ≡ []
       empty rs τ e = cc
 
-  module _ {r : Walk} {ws₁ bs₁ : List ℕ} (first : Ran src (a-rule ar) c ws bs callsOf r ws₁ bs₁) {m : ℕ} {d : Cursor} (some : n ≢ 0) where
+  module _ {r : Walk} {ws₁ bs₁ : List ℕ} (first : Ran src (a-rule ar) c ws bs callsOf r ws₁ bs₁) {m : ℕ} {d : Walker} (some : n ≢ 0) where
     pub counted-no : r ≡ No m d → Counted src (rules-of ar n) (state c ws bs) k cs cs
     unfolding go-on
     counted-no e = record { all = λ rs τ q. absurd (never rs τ (sym (rules-step src ar n (state c ws bs) some ∙ ap (go-on src _) (refused first e)) ∙ q)) }
@@ -107,14 +107,14 @@ module _ {src : Source} (ar : ℕ → ℕ) (n k : ℕ) {c : Cursor} {ws bs cs : 
             same e = unfold run in cc e
         last one v rs τ (no j υ) g q = let z : _≡_ {A = ℕ} 0 1 = cc in absurd (omega arith)
 
-pub rule-refused : {src : Source} (ar : ℕ → ℕ) (n : ℕ) {c d : Cursor} {ws bs ws₁ bs₁ : List ℕ} {r : Walk} {m : ℕ}
+pub rule-refused : {src : Source} (ar : ℕ → ℕ) (n : ℕ) {c d : Walker} {ws bs ws₁ bs₁ : List ℕ} {r : Walk} {m : ℕ}
     → Ran src (a-rule-of ar n) c ws bs nothing r ws₁ bs₁ → r ≡ No m d
     → Ran src (a-rule-of ar n) c ws bs callsOf (No m d) ws₁ bs₁
 rule-refused ar n h e = ran-no (refused h e)
 
 -- ---- the whole list
 
-module _ {src : Source} (ar : ℕ → ℕ) (n : ℕ) {c d : Cursor} {ws bs ws₁ bs₁ : List ℕ} {r : Walk} (h : Ran src (rules-of ar n) c ws bs nothing r ws₁ bs₁) where
+module _ {src : Source} (ar : ℕ → ℕ) (n : ℕ) {c d : Walker} {ws bs ws₁ bs₁ : List ℕ} {r : Walk} (h : Ran src (rules-of ar n) c ws bs nothing r ws₁ bs₁) where
   -- there are as many rules as were asked for
   pub rules-all : {v : ℕ} → r ≡ On v d → Ran src (rules-of ar n) c ws bs rulesOf (On n d) ws₁ bs₁
   rules-all e = always-told h e rulesOf n (many-length (rules-of ar) (a-rule ar) (λ r. r) (rules-many ar) n)
@@ -123,7 +123,7 @@ module _ {src : Source} (ar : ℕ → ℕ) (n : ℕ) {c d : Cursor} {ws bs ws₁
   rules-refused e = ran-no (refused h e)
 
 -- what is noted of a part is noted of the whole
-module _ {src : Source} {c d : Cursor} {ws bs ws₁ bs₁ : List ℕ} {r : Walk} {m : ℕ} where
+module _ {src : Source} {c d : Walker} {ws bs ws₁ bs₁ : List ℕ} {r : Walk} {m : ℕ} where
   pub list-no : (p : Grammar ℕ) (f : ℕ → Grammar (Book Exp)) (k : ℕ) {cs : List ℕ} → Ran src p c ws bs (λ v. v) r ws₁ bs₁ → r ≡ No m d
       → Counted src (bind p f) (state c ws bs) k cs cs
   unfolding go-on

@@ -6,14 +6,14 @@ use mathlib.Core.Bool.{Bool}
 use native.Mathlib.Omega.{arith}
 use native.Mathlib.Decide.{decLt}
 use lib.ListN.{length, getD, List·getD-eq-default}
-use Rattle.fields.specs.declared.Cursor.{Cursor}
+use Rattle.fields.specs.declared.Walker.{Walker}
 use Rattle.fields.specs.declared.Field.the-variants.{Got}
-use Rattle.fields.specs.Source.{Source, from, fieldAt, onward, start}
+use Rattle.fields.specs.Source.{Source, source, fieldAt, moved, start}
 use Rattle.fields.specs.Run.{State, state, run}
 use Rattle.fields.specs.Run.Result.{ok}
 use Rattle.fields.proofs.Ways.{way}
 use Rattle.fields.proofs.Gives.{Gives}
-use Rattle.fields.proofs.Found.{way-gives, trace-spells}
+use Rattle.fields.proofs.Reading.{way-gives, trace-spells}
 use Rattle.fields.proofs.Outcomes.{outcome-of-ok}
 use Rattle.grammar.specs.Books.{arity-in, a-signature}
 use Rattle.grammar.specs.Listing.{arity-fields, signature-fields}
@@ -22,7 +22,7 @@ use Rattle.terms.specs.Arity.{numberAt, arityAt}
 use Rattle.terms.proofs.Symbols.{no-arity, some-arity, number-is}
 
 -- the f-th of the arities that a source hands out one after the other
-given-arity : (src : Source) (c : Cursor) (ars : List ℕ) → Gives src c (flatMap arity-fields ars) → (f : ℕ) → f < length ars
+given-arity : (src : Source) (c : Walker) (ars : List ℕ) → Gives src c (flatMap arity-fields ars) → (f : ℕ) → f < length ars
     → src 4 (record { bit = c .bit + 4 * f; n = c .n + f; listed = c .listed }) ≡ Got (getD ars f 16)
 unfolding flatMap arity-fields Gives
 given-arity src c [] g f h = absurd (omega arith)
@@ -35,7 +35,7 @@ given-arity src c (a ∷ l) g zero h = ap (src 4) (λ i. record { bit = (p i); n
     q = omega arith
 given-arity src c (a ∷ l) g (suc f) h =
     ap (src 4) (λ i. record { bit = (p i); n = (q i); listed = c .listed })
-    ∙ given-arity src (onward 4 c) l (g .1) f (omega arith)
+    ∙ given-arity src (moved 4 c) l (g .1) f (omega arith)
   where
     p : c .bit + 4 * suc f ≡ c .bit + 4 + 4 * f
     p = omega arith
@@ -43,12 +43,12 @@ given-arity src c (a ∷ l) g (suc f) h =
     q : c .n + suc f ≡ c .n + 1 + f
     q = omega arith
 
-module _ (s l : List ℕ) (listed : Bool) (ws bs ars : List ℕ) (τ : State) (read : run (from s l) a-signature (state (start listed) ws bs) ≡ ok ars τ) where
-  handed : Gives (from s l) (start listed) (signature-fields ars)
+module _ (s l : List ℕ) (listed : Bool) (ws bs ars : List ℕ) (τ : State) (read : run (source s l) a-signature (state (start listed) ws bs) ≡ ok ars τ) where
+  handed : Gives (source s l) (start listed) (signature-fields ars)
   handed =
-      subst (Gives (from s l) (start listed))
-      (signature-exactly .forth ars _ (trace-spells s l a-signature (start listed) (outcome-of-ok (from s l) a-signature (start listed) ws bs read)) .1)
-      (way-gives (way (from s l) a-signature (start listed)))
+      subst (Gives (source s l) (start listed))
+      (signature-exactly .forth ars _ (trace-spells s l a-signature (start listed) (outcome-of-ok (source s l) a-signature (start listed) ws bs read)) .1)
+      (way-gives (way (source s l) a-signature (start listed)))
 
   count : length ars ≡ numberAt s l 8 (start listed) 0
   unfolding Gives signature-fields
@@ -57,7 +57,7 @@ module _ (s l : List ℕ) (listed : Bool) (ws bs ars : List ℕ) (τ : State) (r
   each : (f : ℕ) → f < length ars
       → fieldAt s l 4 (record { bit = 8 + 4 * f; n = 1 + f; listed = listed }) ≡ Got (getD ars f 16)
   unfolding Gives signature-fields
-  each f h = given-arity (from s l) (onward 8 (start listed)) ars (handed .1) f h
+  each f h = given-arity (source s l) (moved 8 (start listed)) ars (handed .1) f h
 
   arity-is : (f : ℕ) → arityAt s l listed f ≡ arity-in ars f
   unfolding arity-in

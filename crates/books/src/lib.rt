@@ -1,10 +1,10 @@
 // The walk over a rule book, packed or listed: it tests each field, and passes it into both outputs.
-use fields::Cursor;
 use fields::Walk;
+use fields::Walker;
 ghost use mathlib.Core.Path.{_≡_};
 ghost use Prim.Native.Nat.{_+_, _≤_};
 ghost use lib.ListN.{set};
-ghost use Rattle.fields.specs.Source.{from, start};
+ghost use Rattle.fields.specs.Source.{source, start};
 ghost use Rattle.fields.specs.Run.{state, Ran};
 ghost use Rattle.grammar.specs.Books.{
   arities-of,
@@ -21,8 +21,8 @@ ghost use Rattle.terms.specs.Values.{nothing};
 ghost use Rattle.books.specs.Counts.{callsOf, rulesOf, ruleCount, Counted, CountedBook};
 
 // The n arities of a book's symbols.
-fn arities(s: &[u8], l: &[u16], words: &mut [u16], bytes: &mut [u8], c: Cursor, n: usize) -> Walk
-    ensures { λ r. ⌜ Ran (from (now (s .entry)) (now (l .entry))) (arities-of n) c (now (words .entry)) (now (bytes .entry)) nothing r (now (words .exit)) (now (bytes .exit)) ⌝ }
+fn arities(s: &[u8], l: &[u16], words: &mut [u16], bytes: &mut [u8], c: Walker, n: usize) -> Walk
+    ensures { λ r. ⌜ Ran (source (now (s .entry)) (now (l .entry))) (arities-of n) c (now (words .entry)) (now (bytes .entry)) nothing r (now (words .exit)) (now (bytes .exit)) ⌝ }
 {
     if n == 0 {
         return Walk::On(0, c);
@@ -34,8 +34,8 @@ fn arities(s: &[u8], l: &[u16], words: &mut [u16], bytes: &mut [u8], c: Cursor, 
 }
 
 // The symbols: a count, and each one's arity.
-fn signature(s: &[u8], l: &[u16], words: &mut [u16], bytes: &mut [u8], c: Cursor) -> Walk
-    ensures { λ r. ⌜ Ran (from (now (s .entry)) (now (l .entry))) a-signature c (now (words .entry)) (now (bytes .entry)) nothing r (now (words .exit)) (now (bytes .exit)) ⌝ }
+fn signature(s: &[u8], l: &[u16], words: &mut [u16], bytes: &mut [u8], c: Walker) -> Walk
+    ensures { λ r. ⌜ Ran (source (now (s .entry)) (now (l .entry))) a-signature c (now (words .entry)) (now (bytes .entry)) nothing r (now (words .exit)) (now (bytes .exit)) ⌝ }
 {
     match c.take(8, 0, 256, 4, s, l, words, bytes) {
         Walk::No(m, d) => Walk::No(m, d),
@@ -51,10 +51,10 @@ fn calls(
     l: &[u16],
     words: &mut [u16],
     bytes: &mut [u8],
-    c: Cursor,
+    c: Walker,
     n: usize,
 ) -> Walk
-    ensures { λ r. ⌜ Ran (from (now (s .entry)) (now (l .entry))) (roots-of (arityAt (now (book .entry)) (now (l .entry)) listed) n) c (now (words .entry)) (now (bytes .entry)) nothing r (now (words .exit)) (now (bytes .exit)) ⌝ }
+    ensures { λ r. ⌜ Ran (source (now (s .entry)) (now (l .entry))) (roots-of (arityAt (now (book .entry)) (now (l .entry)) listed) n) c (now (words .entry)) (now (bytes .entry)) nothing r (now (words .exit)) (now (bytes .exit)) ⌝ }
 {
     if n == 0 {
         return Walk::On(0, c);
@@ -73,10 +73,10 @@ fn rule_of(
     l: &[u16],
     words: &mut [u16],
     bytes: &mut [u8],
-    c: Cursor,
+    c: Walker,
     n: usize,
 ) -> Walk
-    ensures { λ r. ⌜ Ran (from (now (s .entry)) (now (l .entry))) (a-rule-of (arityAt (now (book .entry)) (now (l .entry)) listed) n) c (now (words .entry)) (now (bytes .entry)) nothing r (now (words .exit)) (now (bytes .exit)) ⌝ }
+    ensures { λ r. ⌜ Ran (source (now (s .entry)) (now (l .entry))) (a-rule-of (arityAt (now (book .entry)) (now (l .entry)) listed) n) c (now (words .entry)) (now (bytes .entry)) nothing r (now (words .exit)) (now (bytes .exit)) ⌝ }
 {
     match terms::root_term(listed, book, s, l, words, bytes, c) {
         Walk::No(m, d) => Walk::No(m, d),
@@ -92,9 +92,9 @@ pub fn rule(
     l: &[u16],
     words: &mut [u16],
     bytes: &mut [u8],
-    c: Cursor,
+    c: Walker,
 ) -> Walk
-    ensures { λ r. ⌜ Ran (from (now (s .entry)) (now (l .entry))) (a-rule (arityAt (now (book .entry)) (now (l .entry)) listed)) c (now (words .entry)) (now (bytes .entry)) callsOf r (now (words .exit)) (now (bytes .exit)) ⌝ }
+    ensures { λ r. ⌜ Ran (source (now (s .entry)) (now (l .entry))) (a-rule (arityAt (now (book .entry)) (now (l .entry)) listed)) c (now (words .entry)) (now (bytes .entry)) callsOf r (now (words .exit)) (now (bytes .exit)) ⌝ }
 {
     match c.take(4, 0, 9, 4, s, l, words, bytes) {
         Walk::No(m, d) => Walk::No(m, d),
@@ -123,13 +123,13 @@ fn rules(
     words: &mut [u16],
     bytes: &mut [u8],
     counts: &mut [u8],
-    c: Cursor,
+    c: Walker,
     k: usize,
     n: usize,
 ) -> Walk
     requires { ⌜ k + n ≤ 256 ⌝ }
-    ensures walked { λ r. ⌜ Ran (from (now (s .entry)) (now (l .entry))) (rules-of (arityAt (now (book .entry)) (now (l .entry)) listed) n) c (now (words .entry)) (now (bytes .entry)) nothing r (now (words .exit)) (now (bytes .exit)) ⌝ }
-    ensures counted { λ r. ⌜ Counted (from (now (s .entry)) (now (l .entry))) (rules-of (arityAt (now (book .entry)) (now (l .entry)) listed) n) (state c (now (words .entry)) (now (bytes .entry))) k (now (counts .entry)) (now (counts .exit)) ⌝ }
+    ensures walked { λ r. ⌜ Ran (source (now (s .entry)) (now (l .entry))) (rules-of (arityAt (now (book .entry)) (now (l .entry)) listed) n) c (now (words .entry)) (now (bytes .entry)) nothing r (now (words .exit)) (now (bytes .exit)) ⌝ }
+    ensures counted { λ r. ⌜ Counted (source (now (s .entry)) (now (l .entry))) (rules-of (arityAt (now (book .entry)) (now (l .entry)) listed) n) (state c (now (words .entry)) (now (bytes .entry))) k (now (counts .entry)) (now (counts .exit)) ⌝ }
 {
     let mut at = c;
     let mut place = k;
@@ -159,10 +159,10 @@ fn rule_list(
     words: &mut [u16],
     bytes: &mut [u8],
     counts: &mut [u8],
-    c: Cursor,
+    c: Walker,
 ) -> Walk
-    ensures walked { λ r. ⌜ Ran (from (now (s .entry)) (now (l .entry))) (a-rule-list (arityAt (now (book .entry)) (now (l .entry)) listed)) c (now (words .entry)) (now (bytes .entry)) rulesOf r (now (words .exit)) (now (bytes .exit)) ⌝ }
-    ensures counted { λ r. ⌜ Counted (from (now (s .entry)) (now (l .entry))) (a-rule-list (arityAt (now (book .entry)) (now (l .entry)) listed)) (state c (now (words .entry)) (now (bytes .entry))) 0 (now (counts .entry)) (now (counts .exit)) ⌝ }
+    ensures walked { λ r. ⌜ Ran (source (now (s .entry)) (now (l .entry))) (a-rule-list (arityAt (now (book .entry)) (now (l .entry)) listed)) c (now (words .entry)) (now (bytes .entry)) rulesOf r (now (words .exit)) (now (bytes .exit)) ⌝ }
+    ensures counted { λ r. ⌜ Counted (source (now (s .entry)) (now (l .entry))) (a-rule-list (arityAt (now (book .entry)) (now (l .entry)) listed)) (state c (now (words .entry)) (now (bytes .entry))) 0 (now (counts .entry)) (now (counts .exit)) ⌝ }
 {
     match c.take(8, 0, 256, 4, s, l, words, bytes) {
         Walk::No(m, d) => Walk::No(m, d),
@@ -182,10 +182,10 @@ pub fn book(
     bytes: &mut [u8],
     counts: &mut [u8],
 ) -> Walk
-    ensures walked { λ r. ⌜ Ran (from (now (s .entry)) (now (l .entry))) a-book (start listed) (now (words .entry)) (now (bytes .entry)) ruleCount r (now (words .exit)) (now (bytes .exit)) ⌝ }
-    ensures counted { λ r. ⌜ CountedBook (from (now (s .entry)) (now (l .entry))) (state (start listed) (now (words .entry)) (now (bytes .entry))) (now (counts .entry)) (now (counts .exit)) ⌝ }
+    ensures walked { λ r. ⌜ Ran (source (now (s .entry)) (now (l .entry))) a-book (start listed) (now (words .entry)) (now (bytes .entry)) ruleCount r (now (words .exit)) (now (bytes .exit)) ⌝ }
+    ensures counted { λ r. ⌜ CountedBook (source (now (s .entry)) (now (l .entry))) (state (start listed) (now (words .entry)) (now (bytes .entry))) (now (counts .entry)) (now (counts .exit)) ⌝ }
 {
-    let first = Cursor::first(listed);
+    let first = Walker::first(listed);
     match signature(s, l, words, bytes, first) {
         Walk::No(m, d) => Walk::No(m, d),
         Walk::On(_, d) => rule_list(listed, s, s, l, words, bytes, counts, d),

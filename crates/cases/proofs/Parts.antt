@@ -7,7 +7,7 @@ use lib.ListN.{length, take, drop}
 use lib.Seq.{length-front}
 use Rattle.io.specs.Counts.{Counts}
 use Rattle.io.proofs.Counting.{counts}
-use Rattle.verdicts.specs.Lines.{Prints}
+use Rattle.verdicts.specs.Printing.{Prints}
 use Rattle.verdicts.proofs.Printed.{line-first}
 
 -- a part that came back

@@ -7,13 +7,13 @@ use mathlib.Core.Logic.{_≢_}
 use borrow.Author.Tests.{eq-eqb, ne-eqb}
 use lib.ListN.{getD, set}
 use Rattle.bits.specs.Put.{putField}
-use Rattle.fields.specs.declared.Cursor.{Cursor}
+use Rattle.fields.specs.declared.Walker.{Walker}
 use Rattle.fields.specs.declared.Field.{Field}
 use Rattle.fields.specs.declared.Field.the-variants.{Got, Bad}
 use Rattle.fields.specs.declared.Walk.the-variants.{On, No}
-use Rattle.fields.specs.Source.{Source, onward}
+use Rattle.fields.specs.Source.{Source, moved}
 use Rattle.fields.specs.Kinds.{one-call}
-use Rattle.fields.specs.Kinds.{Kind as kind}
+use Rattle.fields.specs.Kinds.{FieldKind as kind}
 use Rattle.fields.specs.Grammar.{done, bind, field}
 use Rattle.fields.specs.Run.{Ran}
 use Rattle.fields.proofs.Runs.{field-bad, field-refused, field-in}
@@ -34,7 +34,7 @@ module _ (ar : ℕ → ℕ) (b : ℕ) where
 
 -- ---- the rule of a descent; `n` is how many calls the code found
 
-module _ (src : Source) (ms : List ℕ) {c : Cursor} {ws bs : List ℕ} {x : Field} (g : x ≡ src 8 c) where
+module _ (src : Source) (ms : List ℕ) {c : Walker} {ws bs : List ℕ} {x : Field} (g : x ≡ src 8 c) where
   pub fall-bad : (m : ℕ) → x ≡ Bad m → Ran src (field kind.rule (one-call ms)) c ws bs (λ v. v) (No m c) ws bs
   fall-bad m e = field-bad kind.rule (one-call ms) m g e
 
@@ -42,7 +42,7 @@ module _ (src : Source) (ms : List ℕ) {c : Cursor} {ws bs : List ℕ} {x : Fie
     pub fall-not : n ≢ 1 → Ran src (field kind.rule (one-call ms)) c ws bs (λ v. v) (No 4 c) ws bs
     fall-not h = field-refused kind.rule (one-call ms) k 4 g e (rw (← found, ne-eqb n 1 h))
 
-    pub fall-one : {d : Cursor} {ws₁ bs₁ : List ℕ} → n ≡ 1 → d ≡ onward 8 c → ws₁ ≡ set ws (c .n) k → bs₁ ≡ putField bs 8 k (c .bit)
+    pub fall-one : {d : Walker} {ws₁ bs₁ : List ℕ} → n ≡ 1 → d ≡ moved 8 c → ws₁ ≡ set ws (c .n) k → bs₁ ≡ putField bs 8 k (c .bit)
         → Ran src (field kind.rule (one-call ms)) c ws bs (λ v. v) (On k d) ws₁ bs₁
     fall-one h p q s = field-in kind.rule (one-call ms) k g e (rw (← found, eq-eqb n 1 h)) refl p q s
 

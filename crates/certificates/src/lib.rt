@@ -1,12 +1,12 @@
 // The walk over a certificate, packed or listed: it tests each field, and passes it into both outputs.
-use fields::Cursor;
 use fields::Field;
 use fields::Walk;
+use fields::Walker;
 ghost use mathlib.Core.Path.{_≡_};
 ghost use Prim.Native.Nat.{_+_, _≤_, _<_};
 ghost use mathlib.Core.Bool.{false};
 ghost use lib.ListN.{length, getD};
-ghost use Rattle.fields.specs.Source.{from, start};
+ghost use Rattle.fields.specs.Source.{source, start};
 ghost use Rattle.fields.specs.Run.{Ran};
 ghost use Rattle.terms.specs.Arity.{arityAt};
 ghost use Rattle.terms.specs.Values.{nothing};
@@ -14,8 +14,8 @@ ghost use Rattle.grammar.specs.Terms.{any-term};
 ghost use Rattle.grammar.specs.Certificates.{a-right, a-claim, an-unfold, a-fall, a-descent, a-kind, a-line-of, a-line, lines-of, a-pace, a-closed, a-closing, a-certificate-of, a-certificate};
 
 // A side of a claim: a term, of which nothing is handed back.
-fn side(book: &[u8], s: &[u8], l: &[u16], words: &mut [u16], bytes: &mut [u8], c: Cursor) -> Walk
-    ensures { λ r. ⌜ Ran (from (now (s .entry)) (now (l .entry))) (any-term (arityAt (now (book .entry)) (now (l .entry)) false)) c (now (words .entry)) (now (bytes .entry)) nothing r (now (words .exit)) (now (bytes .exit)) ⌝ }
+fn side(book: &[u8], s: &[u8], l: &[u16], words: &mut [u16], bytes: &mut [u8], c: Walker) -> Walk
+    ensures { λ r. ⌜ Ran (source (now (s .entry)) (now (l .entry))) (any-term (arityAt (now (book .entry)) (now (l .entry)) false)) c (now (words .entry)) (now (bytes .entry)) nothing r (now (words .exit)) (now (bytes .exit)) ⌝ }
 {
     match terms::any_term(book, s, l, words, bytes, c) {
         Walk::No(m, d) => Walk::No(m, d),
@@ -24,8 +24,8 @@ fn side(book: &[u8], s: &[u8], l: &[u16], words: &mut [u16], bytes: &mut [u8], c
 }
 
 // What stands right of the arrow: the empty mark, or a term.
-fn right(book: &[u8], s: &[u8], l: &[u16], words: &mut [u16], bytes: &mut [u8], c: Cursor) -> Walk
-    ensures { λ r. ⌜ Ran (from (now (s .entry)) (now (l .entry))) (a-right (arityAt (now (book .entry)) (now (l .entry)) false)) c (now (words .entry)) (now (bytes .entry)) nothing r (now (words .exit)) (now (bytes .exit)) ⌝ }
+fn right(book: &[u8], s: &[u8], l: &[u16], words: &mut [u16], bytes: &mut [u8], c: Walker) -> Walk
+    ensures { λ r. ⌜ Ran (source (now (s .entry)) (now (l .entry))) (a-right (arityAt (now (book .entry)) (now (l .entry)) false)) c (now (words .entry)) (now (bytes .entry)) nothing r (now (words .exit)) (now (bytes .exit)) ⌝ }
 {
     match c.take(1, 0, 2, 4, s, l, words, bytes) {
         Walk::No(m, d) => Walk::No(m, d),
@@ -37,8 +37,8 @@ fn right(book: &[u8], s: &[u8], l: &[u16], words: &mut [u16], bytes: &mut [u8], 
 }
 
 // What a line claims: a term, and what stands right of the arrow.
-fn claim(book: &[u8], s: &[u8], l: &[u16], words: &mut [u16], bytes: &mut [u8], c: Cursor) -> Walk
-    ensures { λ r. ⌜ Ran (from (now (s .entry)) (now (l .entry))) (a-claim (arityAt (now (book .entry)) (now (l .entry)) false)) c (now (words .entry)) (now (bytes .entry)) nothing r (now (words .exit)) (now (bytes .exit)) ⌝ }
+fn claim(book: &[u8], s: &[u8], l: &[u16], words: &mut [u16], bytes: &mut [u8], c: Walker) -> Walk
+    ensures { λ r. ⌜ Ran (source (now (s .entry)) (now (l .entry))) (a-claim (arityAt (now (book .entry)) (now (l .entry)) false)) c (now (words .entry)) (now (bytes .entry)) nothing r (now (words .exit)) (now (bytes .exit)) ⌝ }
 {
     match side(book, s, l, words, bytes, c) {
         Walk::No(m, d) => Walk::No(m, d),
@@ -65,11 +65,11 @@ fn unfold(
     l: &[u16],
     words: &mut [u16],
     bytes: &mut [u8],
-    c: Cursor,
+    c: Walker,
     line: u16,
 ) -> Walk
     requires { ⌜ length (now counts) < 256 ⌝ }
-    ensures { λ r. ⌜ Ran (from (now (s .entry)) (now (l .entry))) (an-unfold (arityAt (now (book .entry)) (now (l .entry)) false) (now (counts .entry)) line) c (now (words .entry)) (now (bytes .entry)) nothing r (now (words .exit)) (now (bytes .exit)) ⌝ }
+    ensures { λ r. ⌜ Ran (source (now (s .entry)) (now (l .entry))) (an-unfold (arityAt (now (book .entry)) (now (l .entry)) false) (now (counts .entry)) line) c (now (words .entry)) (now (bytes .entry)) nothing r (now (words .exit)) (now (bytes .exit)) ⌝ }
 {
     let end = counts.len() as u16;
     match c.take(8, 0, end, 4, s, l, words, bytes) {
@@ -89,9 +89,9 @@ fn fall(
     l: &[u16],
     words: &mut [u16],
     bytes: &mut [u8],
-    c: Cursor,
+    c: Walker,
 ) -> Walk
-    ensures { λ r. ⌜ Ran (from (now (s .entry)) (now (l .entry))) (a-fall (arityAt (now (book .entry)) (now (l .entry)) false) (now (counts .entry))) c (now (words .entry)) (now (bytes .entry)) nothing r (now (words .exit)) (now (bytes .exit)) ⌝ }
+    ensures { λ r. ⌜ Ran (source (now (s .entry)) (now (l .entry))) (a-fall (arityAt (now (book .entry)) (now (l .entry)) false) (now (counts .entry))) c (now (words .entry)) (now (bytes .entry)) nothing r (now (words .exit)) (now (bytes .exit)) ⌝ }
 {
     match c.look(8, s, l) {
         Field::Bad(m) => Walk::No(m, c),
@@ -114,10 +114,10 @@ fn descent(
     l: &[u16],
     words: &mut [u16],
     bytes: &mut [u8],
-    c: Cursor,
+    c: Walker,
     line: u16,
 ) -> Walk
-    ensures { λ r. ⌜ Ran (from (now (s .entry)) (now (l .entry))) (a-descent (arityAt (now (book .entry)) (now (l .entry)) false) (now (counts .entry)) line) c (now (words .entry)) (now (bytes .entry)) nothing r (now (words .exit)) (now (bytes .exit)) ⌝ }
+    ensures { λ r. ⌜ Ran (source (now (s .entry)) (now (l .entry))) (a-descent (arityAt (now (book .entry)) (now (l .entry)) false) (now (counts .entry)) line) c (now (words .entry)) (now (bytes .entry)) nothing r (now (words .exit)) (now (bytes .exit)) ⌝ }
 {
     match uses::use_line(book, s, l, words, bytes, c, line) {
         Walk::No(m, d) => Walk::No(m, d),
@@ -133,12 +133,12 @@ fn kind(
     l: &[u16],
     words: &mut [u16],
     bytes: &mut [u8],
-    c: Cursor,
+    c: Walker,
     line: u16,
     tag: usize,
 ) -> Walk
     requires { ⌜ length (now counts) < 256 ⌝ }
-    ensures { λ r. ⌜ Ran (from (now (s .entry)) (now (l .entry))) (a-kind (arityAt (now (book .entry)) (now (l .entry)) false) (now (counts .entry)) line tag) c (now (words .entry)) (now (bytes .entry)) nothing r (now (words .exit)) (now (bytes .exit)) ⌝ }
+    ensures { λ r. ⌜ Ran (source (now (s .entry)) (now (l .entry))) (a-kind (arityAt (now (book .entry)) (now (l .entry)) false) (now (counts .entry)) line tag) c (now (words .entry)) (now (bytes .entry)) nothing r (now (words .exit)) (now (bytes .exit)) ⌝ }
 {
     match tag {
         0 => unfold(book, counts, s, l, words, bytes, c, line),
@@ -154,12 +154,12 @@ fn line_of(
     l: &[u16],
     words: &mut [u16],
     bytes: &mut [u8],
-    c: Cursor,
+    c: Walker,
     line: u16,
     tag: usize,
 ) -> Walk
     requires { ⌜ length (now counts) < 256 ⌝ }
-    ensures { λ r. ⌜ Ran (from (now (s .entry)) (now (l .entry))) (a-line-of (arityAt (now (book .entry)) (now (l .entry)) false) (now (counts .entry)) line tag) c (now (words .entry)) (now (bytes .entry)) nothing r (now (words .exit)) (now (bytes .exit)) ⌝ }
+    ensures { λ r. ⌜ Ran (source (now (s .entry)) (now (l .entry))) (a-line-of (arityAt (now (book .entry)) (now (l .entry)) false) (now (counts .entry)) line tag) c (now (words .entry)) (now (bytes .entry)) nothing r (now (words .exit)) (now (bytes .exit)) ⌝ }
 {
     match claim(book, s, l, words, bytes, c) {
         Walk::No(m, d) => Walk::No(m, d),
@@ -175,11 +175,11 @@ pub fn line(
     l: &[u16],
     words: &mut [u16],
     bytes: &mut [u8],
-    c: Cursor,
+    c: Walker,
     line: u16,
 ) -> Walk
     requires { ⌜ length (now counts) < 256 ⌝ }
-    ensures { λ r. ⌜ Ran (from (now (s .entry)) (now (l .entry))) (a-line (arityAt (now (book .entry)) (now (l .entry)) false) (now (counts .entry)) line) c (now (words .entry)) (now (bytes .entry)) nothing r (now (words .exit)) (now (bytes .exit)) ⌝ }
+    ensures { λ r. ⌜ Ran (source (now (s .entry)) (now (l .entry))) (a-line (arityAt (now (book .entry)) (now (l .entry)) false) (now (counts .entry)) line) c (now (words .entry)) (now (bytes .entry)) nothing r (now (words .exit)) (now (bytes .exit)) ⌝ }
 {
     match c.take(1, 0, 2, 4, s, l, words, bytes) {
         Walk::No(m, d) => Walk::No(m, d),
@@ -195,12 +195,12 @@ fn lines(
     l: &[u16],
     words: &mut [u16],
     bytes: &mut [u8],
-    c: Cursor,
+    c: Walker,
     n: usize,
     first: u16,
 ) -> Walk
     requires { ⌜ (length (now counts) < 256) × (first + n ≤ 256) ⌝ }
-    ensures { λ r. ⌜ Ran (from (now (s .entry)) (now (l .entry))) (lines-of (arityAt (now (book .entry)) (now (l .entry)) false) (now (counts .entry)) n first) c (now (words .entry)) (now (bytes .entry)) nothing r (now (words .exit)) (now (bytes .exit)) ⌝ }
+    ensures { λ r. ⌜ Ran (source (now (s .entry)) (now (l .entry))) (lines-of (arityAt (now (book .entry)) (now (l .entry)) false) (now (counts .entry)) n first) c (now (words .entry)) (now (bytes .entry)) nothing r (now (words .exit)) (now (bytes .exit)) ⌝ }
 {
     let mut at = c;
     let mut number = first;
@@ -221,8 +221,8 @@ fn lines(
 }
 
 // The step and the start of a closing, together at most 4,095: the start.
-fn pace(s: &[u8], l: &[u16], words: &mut [u16], bytes: &mut [u8], c: Cursor) -> Walk
-    ensures { λ r. ⌜ Ran (from (now (s .entry)) (now (l .entry))) a-pace c (now (words .entry)) (now (bytes .entry)) (λ p. p .α) r (now (words .exit)) (now (bytes .exit)) ⌝ }
+fn pace(s: &[u8], l: &[u16], words: &mut [u16], bytes: &mut [u8], c: Walker) -> Walk
+    ensures { λ r. ⌜ Ran (source (now (s .entry)) (now (l .entry))) a-pace c (now (words .entry)) (now (bytes .entry)) (λ p. p .α) r (now (words .exit)) (now (bytes .exit)) ⌝ }
 {
     match c.take(12, 0, 4096, 4, s, l, words, bytes) {
         Walk::No(m, d) => Walk::No(m, d),
@@ -231,8 +231,8 @@ fn pace(s: &[u8], l: &[u16], words: &mut [u16], bytes: &mut [u8], c: Cursor) -> 
 }
 
 // The step and the start of a closing, with its filling.
-fn closed(book: &[u8], s: &[u8], l: &[u16], words: &mut [u16], bytes: &mut [u8], c: Cursor) -> Walk
-    ensures { λ r. ⌜ Ran (from (now (s .entry)) (now (l .entry))) (a-closed (arityAt (now (book .entry)) (now (l .entry)) false)) c (now (words .entry)) (now (bytes .entry)) nothing r (now (words .exit)) (now (bytes .exit)) ⌝ }
+fn closed(book: &[u8], s: &[u8], l: &[u16], words: &mut [u16], bytes: &mut [u8], c: Walker) -> Walk
+    ensures { λ r. ⌜ Ran (source (now (s .entry)) (now (l .entry))) (a-closed (arityAt (now (book .entry)) (now (l .entry)) false)) c (now (words .entry)) (now (bytes .entry)) nothing r (now (words .exit)) (now (bytes .exit)) ⌝ }
 {
     match pace(s, l, words, bytes, c) {
         Walk::No(m, d) => Walk::No(m, d),
@@ -247,10 +247,10 @@ pub fn closing(
     l: &[u16],
     words: &mut [u16],
     bytes: &mut [u8],
-    c: Cursor,
+    c: Walker,
     n: u16,
 ) -> Walk
-    ensures { λ r. ⌜ Ran (from (now (s .entry)) (now (l .entry))) (a-closing (arityAt (now (book .entry)) (now (l .entry)) false) n) c (now (words .entry)) (now (bytes .entry)) nothing r (now (words .exit)) (now (bytes .exit)) ⌝ }
+    ensures { λ r. ⌜ Ran (source (now (s .entry)) (now (l .entry))) (a-closing (arityAt (now (book .entry)) (now (l .entry)) false) n) c (now (words .entry)) (now (bytes .entry)) nothing r (now (words .exit)) (now (bytes .exit)) ⌝ }
 {
     match c.take(8, 0, n, 4, s, l, words, bytes) {
         Walk::No(m, d) => Walk::No(m, d),
@@ -266,11 +266,11 @@ fn certificate_of(
     l: &[u16],
     words: &mut [u16],
     bytes: &mut [u8],
-    c: Cursor,
+    c: Walker,
     n: usize,
 ) -> Walk
     requires { ⌜ (length (now counts) < 256) × (n < 256) ⌝ }
-    ensures { λ r. ⌜ Ran (from (now (s .entry)) (now (l .entry))) (a-certificate-of (arityAt (now (book .entry)) (now (l .entry)) false) (now (counts .entry)) n) c (now (words .entry)) (now (bytes .entry)) nothing r (now (words .exit)) (now (bytes .exit)) ⌝ }
+    ensures { λ r. ⌜ Ran (source (now (s .entry)) (now (l .entry))) (a-certificate-of (arityAt (now (book .entry)) (now (l .entry)) false) (now (counts .entry)) n) c (now (words .entry)) (now (bytes .entry)) nothing r (now (words .exit)) (now (bytes .exit)) ⌝ }
 {
     match lines(book, counts, s, l, words, bytes, c, n, 0) {
         Walk::No(m, d) => Walk::No(m, d),
@@ -289,9 +289,9 @@ pub fn certificate(
     bytes: &mut [u8],
 ) -> Walk
     requires { ⌜ length (now counts) < 256 ⌝ }
-    ensures { λ r. ⌜ Ran (from (now (s .entry)) (now (l .entry))) (a-certificate (arityAt (now (book .entry)) (now (l .entry)) false) (now (counts .entry))) (start listed) (now (words .entry)) (now (bytes .entry)) nothing r (now (words .exit)) (now (bytes .exit)) ⌝ }
+    ensures { λ r. ⌜ Ran (source (now (s .entry)) (now (l .entry))) (a-certificate (arityAt (now (book .entry)) (now (l .entry)) false) (now (counts .entry))) (start listed) (now (words .entry)) (now (bytes .entry)) nothing r (now (words .exit)) (now (bytes .exit)) ⌝ }
 {
-    let first = Cursor::first(listed);
+    let first = Walker::first(listed);
     match first.take(8, 0, 256, 4, s, l, words, bytes) {
         Walk::No(m, d) => Walk::No(m, d),
         Walk::On(n, d) => certificate_of(book, counts, s, l, words, bytes, d, n),

@@ -7,7 +7,7 @@ use Rattle.patterns.specs.First.{Exp}
 use Rattle.table.specs.Places.{FIRST}
 use Rattle.comparing.specs.declared.Found.{Found}
 use Rattle.comparing.specs.declared.Found.the-variants.{Fault, Good}
-use Rattle.comparing.specs.declared.Kind.{Kind}
+use Rattle.comparing.specs.declared.Whole.{Whole}
 use Rattle.comparing.specs.declared.Behind.{Behind}
 use Rattle.comparing.specs.declared.Behind.the-variants.{Pending}
 use Rattle.comparing.specs.declared.Asked.{Asked}
@@ -37,7 +37,7 @@ module _ {book cert : List ℕ} {l n p right : ℕ} {q : Behind} {a b : Subject}
 
 -- ---- by what is asked
 
-module _ {book cert : List ℕ} {kind : Kind} {part right : ℕ} {q : Behind} {a b : Subject} {w after : List ℕ} {r : Found} {x : Asked} (e : x ≡ asked-at kind part) where
+module _ {book cert : List ℕ} {kind : Whole} {part right : ℕ} {q : Behind} {a b : Subject} {w after : List ℕ} {r : Found} {x : Asked} (e : x ≡ asked-at kind part) where
   -- the checks of what is asked are those of the part
   made : Below FIRST w after
       → ((ars : List ℕ) → Known-arities book ars → (t : Mark Exp) → RightAt cert ars right t → (m : Mark Exp) (i : ℕ) → Means book cert w a m i
@@ -48,7 +48,7 @@ module _ {book cert : List ℕ} {kind : Kind} {part right : ℕ} {q : Behind} {a
     below = below;
   }
 
-module _ {book cert : List ℕ} {kind : Kind} {part right : ℕ} {q : Behind} {a b : Subject} {w after : List ℕ} {r : Found} {x : Asked} {n : ℕ} (e : x ≡ asked-at kind part) where
+module _ {book cert : List ℕ} {kind : Whole} {part right : ℕ} {q : Behind} {a b : Subject} {w after : List ℕ} {r : Found} {x : Asked} {n : ℕ} (e : x ≡ asked-at kind part) where
   pub made-same : x ≡ Same n → Equals book cert n part a b w after r → Checks book cert kind part right q a b w after r
   unfolding checks-of end-of
   made-same s h = made (sym s ∙ e) (h .below) (λ ars k t u m i y d f z. h .told m i y d f z)
@@ -57,7 +57,7 @@ module _ {book cert : List ℕ} {kind : Kind} {part right : ℕ} {q : Behind} {a
   unfolding checks-of end-of
   made-led s h = made (sym s ∙ e) (h .below) (λ ars k t u m i y d f z. h .told ars t u m i y d f z)
 
-module _ {book cert : List ℕ} {kind : Kind} {part right : ℕ} {q : Behind} {a b : Subject} {w : List ℕ} {r : Found} {x : Asked} {n : ℕ} (e : x ≡ asked-at kind part) where
+module _ {book cert : List ℕ} {kind : Whole} {part right : ℕ} {q : Behind} {a b : Subject} {w : List ℕ} {r : Found} {x : Asked} {n : ℕ} (e : x ≡ asked-at kind part) where
   pub made-level : x ≡ Level n → LooksLevel book cert right n part r → Checks book cert kind part right q a b w w r
   unfolding checks-of end-of
   made-level s h = made (sym s ∙ e) (below-self FIRST w) (λ ars k t u m i y d f z. h .told ars k t u)

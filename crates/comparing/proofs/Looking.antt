@@ -9,7 +9,7 @@ use native.Mathlib.Omega.{arith}
 use borrow.Author.Tests.{eq-eqb, ne-eqb}
 use lib.Dec.{eqb}
 use Rattle.patterns.specs.Term.{All}
-use Rattle.patterns.specs.First.{Exp, Pattern, Still}
+use Rattle.patterns.specs.First.{Exp, Pattern, Level}
 use Rattle.patterns.specs.Certificate.{Mark}
 use Rattle.patterns.specs.Checks.{OnMark}
 use Rattle.patterns.specs.Demand.{Met, level}
@@ -75,7 +75,7 @@ abbrev LevelTold : List ℕ → List ℕ → (right n p : ℕ) → Found → Typ
 LevelTold book cert right n p r = (ars : List ℕ) → Known-arities book ars → (m : Mark Exp) → RightAt cert ars right m → Finds (check n p (level m) ∷ []) 0 r
 
 levels : {book cert : List ℕ} {right : ℕ} {c : Read} {b : Bool} → Takes cert 1 right c → Levels book cert (c .at) b → (ars : List ℕ) → Known-arities book ars
-    → (u : Pattern) → RightAt cert ars right (some u) → Says (All Still u) b
+    → (u : Pattern) → RightAt cert ars right (some u) → Says (All Level u) b
 unfolding if-any OnMark
 levels t l ars k u r = l .told u (term-at k (r .fits) (rest-at t (r .lies)))
 

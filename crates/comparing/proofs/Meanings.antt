@@ -22,7 +22,7 @@ use Rattle.comparing.specs.declared.Subject.{Subject}
 use Rattle.comparing.specs.declared.Filled.{Filled}
 use Rattle.comparing.specs.declared.Filled.the-variants.{Bare, Used}
 use Rattle.instances.specs.Lying.{Lies, Known-arities, behind}
-use Rattle.instances.specs.Fillings.{Fills as Tells}
+use Rattle.instances.specs.Fillings.{FillsTold}
 use Rattle.begins.specs.Placed.{RightAt, LeftAt}
 use Rattle.instances.specs.Taking.{Takes}
 use Rattle.begins.specs.Known.{Known, Scene, Uses}
@@ -34,7 +34,7 @@ use Rattle.begins.proofs.Frames.{bare-tells}
 
 -- a term of the certificate, reindexed and filled
 claimed-means : {book cert w ars : List ℕ} {at : ℕ} {t : Pattern} (f : Filled) (θ : Filling Exp) (i j : ℕ) → Known-arities book ars
-    → Tells book cert w (table-of f) θ → LeftAt cert ars at t → Means book cert w (Claimed at i j f) (some (fill θ (reindex one (i, j) t))) (behind at t)
+    → FillsTold book cert w (table-of f) θ → LeftAt cert ars at t → Means book cert w (Claimed at i j f) (some (fill θ (reindex one (i, j) t))) (behind at t)
 unfolding Means
 claimed-means {t = t} f θ i j a g l = record { term = t; filling = θ; lies = term-at a (l .fits) (l .lies); filled = g; mark = refl; ends = refl }
 
@@ -65,7 +65,7 @@ module _ {book cert w ars : List ℕ} {B : Book Exp} {es : List (Claim Exp)} whe
   left-itself {at} {t} k l = subst (λ u. Means book cert w (Claimed at 1 0 Bare) (some u) (behind at t)) (as-it-is t) (left-means 1 0 k l)
 
   -- a left reindexed and filled by a filling that stands in the table of uses
-  pub filled-means : {at : ℕ} {t : Pattern} (θ : Fills Exp) (i j : ℕ) → Known book cert w ars B es → Tells book cert w USED (by θ) → LeftAt cert ars at t
+  pub filled-means : {at : ℕ} {t : Pattern} (θ : Fills Exp) (i j : ℕ) → Known book cert w ars B es → FillsTold book cert w USED (by θ) → LeftAt cert ars at t
       → Means book cert w (Claimed at i j Used) (some (fill (by θ) (reindex one (i, j) t))) (behind at t)
   unfolding table-of
   filled-means θ i j k f l = claimed-means Used (by θ) i j (k .arity) f l
@@ -107,7 +107,7 @@ module _ {cert : List ℕ} {at : ℕ} {c : Read} (t : Takes cert 1 at c) (i j : 
   unfolding if-any
   right-there ne = record { told = go }
     where
-      go : (book w ars : List ℕ) (θ : Filling Exp) → Known-arities book ars → Tells book cert w (table-of f) θ → (m : Mark Exp) → RightAt cert ars at m
+      go : (book w ars : List ℕ) (θ : Filling Exp) → Known-arities book ars → FillsTold book cert w (table-of f) θ → (m : Mark Exp) → RightAt cert ars at m
           → (end : ℕ) × Means book cert w (Claimed (c .at) i j f) (Option·map (λ t. fill θ (reindex one (i, j) t)) m) end
       go book w ars θ a g none r = absurd (ne (t .told 0 [] (r .lies) .0))
       go book w ars θ a g (some u) r = (behind (c .at) u, claimed-means f θ i j a g (right-left t r))

@@ -27,7 +27,7 @@ use Rattle.comparing.specs.declared.Compared.the-variants.{Equal, Unequa
 use Rattle.instances.specs.declared.Side.{Side}
 use Rattle.instances.specs.declared.Side.the-variants.{Done, Full}
 use Rattle.instances.specs.Lying.{arities, behind}
-use Rattle.instances.specs.Instances.{Stored, Few, Builds}
+use Rattle.instances.specs.Instances.{Stored, FewNodes, Builds}
 use Rattle.begins.specs.Known.{Below}
 use Rattle.comparing.specs.Subjects.{InstanceAt, table-of, Means, Sided, Settles, Compares}
 use Rattle.instances.proofs.Terms.{formed-instance}
@@ -73,7 +73,7 @@ means-formed book cert w (Claimed at i j f) m end x = instance-formed x
 -- ---- one side
 
 pub sided-empty : (book cert : List ℕ) (base : ℕ) (w : List ℕ) → Sided book cert base Empty w w (Done 0 0)
-unfolding Means Stored Few
+unfolding Means Stored FewNodes
 sided-empty book cert base w = record {
   told = λ m end x. subst (λ k. Stored base k end w (Done 0 0)) (sym (x .0)) (built-empty base w, sym (x .1));
   few = omega arith;
@@ -103,8 +103,8 @@ sided-as {book} {cert} {w} {after} {base} {r = r} e s = subst (λ x. Sided book 
 
 -- ---- two sides compared
 
-pub few-done : {r : Side} {n e : ℕ} → Few r → r ≡ Done n e → n ≤ NODES
-unfolding Few
+pub few-done : {r : Side} {n e : ℕ} → FewNodes r → r ≡ Done n e → n ≤ NODES
+unfolding FewNodes
 few-done f q = rw q at f
 
 stored-done : (base end : ℕ) (m : Mark Exp) (after : List ℕ) {n e : ℕ} {r : Side} → Stored base m end after r → r ≡ Done n e → Built base m after (Count n) × (e ≡ end)

@@ -9,8 +9,8 @@ use Rattle.patterns.specs.Demand.{present, level}
 use Rattle.patterns.specs.Judge.{Check, check, compare}
 use Rattle.table.specs.Places.{FIRST}
 use Rattle.comparing.specs.declared.Found.{Found}
-use Rattle.comparing.specs.declared.Kind.{Kind}
-use Rattle.comparing.specs.declared.Kind.the-variants.{Unfold, Descent, Closing}
+use Rattle.comparing.specs.declared.Whole.{Whole}
+use Rattle.comparing.specs.declared.Whole.the-variants.{Unfold, Descent, Closing}
 use Rattle.comparing.specs.declared.Behind.{Behind}
 use Rattle.comparing.specs.declared.Asked.{Asked}
 use Rattle.comparing.specs.declared.Asked.the-variants.{Same, Led, Level, Present}
@@ -22,7 +22,7 @@ use Rattle.comparing.specs.Subjects.{Means}
 use Rattle.comparing.specs.Found.{Finds}
 use Rattle.comparing.specs.Rights.{lead}
 
-unfoldable pub asked-at : Kind → ℕ → Asked
+unfoldable pub asked-at : Whole → ℕ → Asked
 asked-at Unfold p = cond (eqb p 0) (Same 9) (cond (eqb p 15) (Same 12) (Led 11 10))
 asked-at Descent p =
     cond (eqb p 0) (Same 9) (cond (eqb p 1) (Same 12) (cond (eqb p 2) (Same 9) (cond (eqb p 3) (Same 10) (Level 13))))
@@ -54,7 +54,7 @@ pub record LedEquals (book cert : List ℕ) (l n p right : ℕ) (q : Behind) (a 
   pub below : Below FIRST w after
 
 -- what is asked at a part was looked at
-pub record Checks (book cert : List ℕ) (kind : Kind) (part right : ℕ) (q : Behind) (a b : Subject) (w after : List ℕ) (r : Found) : Type 0 where
+pub record Checks (book cert : List ℕ) (kind : Whole) (part right : ℕ) (q : Behind) (a b : Subject) (w after : List ℕ) (r : Found) : Type 0 where
   pub told : (ars : List ℕ) → Known-arities book ars → (t : Mark Exp) → RightAt cert ars right t → (m : Mark Exp) (e : ℕ) → Means book cert w a m e
       → (k : Mark Exp) (f : ℕ) → Means book cert w b k f → Finds (checks-of (asked-at kind part) part q t m k) (end-of (asked-at kind part) e) r
   pub below : Below FIRST w after

@@ -19,8 +19,8 @@ use Rattle.comparing.specs.declared.Compared.{Compared}
 use Rattle.comparing.specs.declared.Compared.the-variants.{Equal, Unequal, TooBig}
 use Rattle.instances.specs.declared.Side.{Side}
 use Rattle.instances.specs.Lying.{Known-arities, TermAt, behind}
-use Rattle.instances.specs.Fillings.{Fills}
-use Rattle.instances.specs.Instances.{Stored, Few}
+use Rattle.instances.specs.Fillings.{FillsTold}
+use Rattle.instances.specs.Instances.{Stored, FewNodes}
 use Rattle.begins.specs.Placed.{RightAt}
 use Rattle.begins.specs.Known.{Below}
 
@@ -29,7 +29,7 @@ pub record InstanceAt (book s cert w : List ℕ) (at i j fills : ℕ) (m : Mark 
   pub term : Pattern
   pub filling : Filling Exp
   pub lies : TermAt book s at term
-  pub filled : Fills book cert w fills filling
+  pub filled : FillsTold book cert w fills filling
   pub mark : m ≡ some (fill filling (reindex one (i, j) term))
   pub ends : end ≡ behind at term
 
@@ -47,7 +47,7 @@ Means book cert w (Claimed at i j f) m end = InstanceAt book cert cert w at i j 
 -- a side was built
 pub record Sided (book cert : List ℕ) (base : ℕ) (a : Subject) (w after : List ℕ) (r : Side) : Type 0 where
   pub told : (m : Mark Exp) (end : ℕ) → Means book cert w a m end → Stored base m end after r
-  pub few : Few r
+  pub few : FewNodes r
   pub kept : Kept base SIDE w after
 
 -- what a comparison settles, where the first side's term ends at `end`
@@ -63,5 +63,5 @@ pub record Compares (book cert : List ℕ) (a b : Subject) (w after : List ℕ) 
 
 -- the right that lies at a bit, as a subject
 pub record RightMeans (cert : List ℕ) (at i j : ℕ) (f : Filled) (r : Subject) : Type 0 where
-  pub told : (book w ars : List ℕ) (θ : Filling Exp) → Known-arities book ars → Fills book cert w (table-of f) θ → (m : Mark Exp) → RightAt cert ars at m
+  pub told : (book w ars : List ℕ) (θ : Filling Exp) → Known-arities book ars → FillsTold book cert w (table-of f) θ → (m : Mark Exp) → RightAt cert ars at m
       → (end : ℕ) × Means book cert w r (Option·map (λ t. fill θ (reindex one (i, j) t)) m) end

@@ -43,7 +43,7 @@ pub enum Found {
 }
 
 // Where a check stands.
-pub enum Kind {
+pub enum Whole {
     Unfold,
     Descent,
     Closing,
@@ -105,11 +105,11 @@ fn led_equal(
 }
 
 // What is asked at each part of each kind of line.
-fn asked_at(kind: Kind, part: usize) -> Asked
+fn asked_at(kind: Whole, part: usize) -> Asked
     ensures { λ r. ⌜ r ≡ asked-at kind part ⌝ }
 {
     match kind {
-        Kind::Unfold => match part {
+        Whole::Unfold => match part {
             0 => Asked::Same(9),
             15 => Asked::Same(12),
             _ => Asked::Led {
@@ -117,14 +117,14 @@ fn asked_at(kind: Kind, part: usize) -> Asked
                 number: 10,
             },
         },
-        Kind::Descent => match part {
+        Whole::Descent => match part {
             0 => Asked::Same(9),
             1 => Asked::Same(12),
             2 => Asked::Same(9),
             3 => Asked::Same(10),
             _ => Asked::Level(13),
         },
-        Kind::Closing => match part {
+        Whole::Closing => match part {
             0 => Asked::Present(14),
             _ => Asked::Same(15),
         },
@@ -136,7 +136,7 @@ pub fn check(
     book: &[u8],
     certificate: &[u8],
     w: &mut [u64],
-    kind: Kind,
+    kind: Whole,
     part: usize,
     right: usize,
     behind: Behind,

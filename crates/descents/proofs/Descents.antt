@@ -21,7 +21,7 @@ use Rattle.grammar.specs.Limits.{RootFits, KindFits, call-counts}
 use Rattle.instances.specs.declared.Read.{Read}
 use Rattle.comparing.specs.declared.Found.{Found}
 use Rattle.comparing.specs.declared.Found.the-variants.{Fault, Good}
-use Rattle.comparing.specs.declared.Kind.the-variants.{Descent}
+use Rattle.comparing.specs.declared.Whole.the-variants.{Descent}
 use Rattle.begins.specs.declared.Instance.{Instance}
 use Rattle.comparing.specs.declared.Subject.{Subject}
 use Rattle.comparing.specs.declared.Subject.the-variants.{Empty, Call, Claimed}

@@ -3,8 +3,8 @@ use begins::Instance;
 use comparing::Behind;
 use comparing::Filled;
 use comparing::Found;
-use comparing::Kind;
 use comparing::Subject;
+use comparing::Whole;
 use table::OWN;
 ghost use Prim.Native.Nat.{_≤_};
 ghost use lib.ListN.{length};
@@ -41,7 +41,7 @@ fn descent_base(
         book,
         certificate,
         w,
-        Kind::Descent,
+        Whole::Descent,
         0,
         right,
         Behind::Nothing,
@@ -58,7 +58,7 @@ fn descent_base(
             book,
             certificate,
             w,
-            Kind::Descent,
+            Whole::Descent,
             1,
             right,
             Behind::Nothing,
@@ -87,7 +87,7 @@ fn descent_head(
             book,
             certificate,
             w,
-            Kind::Descent,
+            Whole::Descent,
             2,
             right,
             Behind::Nothing,
@@ -121,7 +121,7 @@ fn descent_call(
             book,
             certificate,
             w,
-            Kind::Descent,
+            Whole::Descent,
             3,
             right,
             Behind::Nothing,
@@ -145,7 +145,7 @@ fn level_right(book: &[u8], certificate: &[u8], w: &mut [u64], right: usize, at:
         book,
         certificate,
         w,
-        Kind::Descent,
+        Whole::Descent,
         4,
         right,
         Behind::Nothing,

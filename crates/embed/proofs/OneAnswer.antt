@@ -8,8 +8,8 @@ use lib.Dec.{eqb}
 use Rattle.answers.proofs.Inverses.{inverse-tells}
 use Rattle.answers.specs.Numbers.{Told, filled-with, refused-with}
 use Rattle.patterns.specs.First.{Pace}
-use Rattle.patterns.specs.Refusal.{Refusal}
-use Rattle.patterns.specs.Judge.{Verdict, accept, refuse}
+use Rattle.patterns.specs.Reason.{Reason}
+use Rattle.patterns.specs.Judge.{Ruling, accept, refuse}
 use Rattle.layout.specs.Answers.{Given, told}
 use Rattle.verdicts.specs.Judging.{judging}
 use Rattle.embed.specs.Numbers.{refusal-numbers, answer-numbers, verdict-numbers}
@@ -27,7 +27,7 @@ one-judge-told p q = (cc, cc)
 
 -- ---- the numbers have an inverse, so no two answers, and no two verdicts, have the same
 
-abbrev refusal-read : List ℕ → Refusal
+abbrev refusal-read : List ℕ → Reason
 refusal-read ns = record { number = getD ns 1 0; w = getD ns 2 0; a = getD ns 3 0; b = getD ns 4 0 }
 
 abbrev answer-read : List ℕ → Told
@@ -41,16 +41,16 @@ answer-back (refused-with r) = refl
 pub answer-tells : (s t : Told) → answer-numbers s ≡ answer-numbers t → s ≡ t
 answer-tells = inverse-tells answer-numbers answer-read answer-back
 
-abbrev verdict-read : List ℕ → Verdict Pace
+abbrev verdict-read : List ℕ → Ruling Pace
 verdict-read ns =
     cond (eqb (getD ns 0 0) 0) (accept (getD ns 1 0) (record { k = getD ns 2 0; α = getD ns 3 0 })) (refuse (refusal-read ns))
 
-verdict-back : (v : Verdict Pace) → verdict-read (verdict-numbers v) ≡ v
+verdict-back : (v : Ruling Pace) → verdict-read (verdict-numbers v) ≡ v
 unfolding verdict-numbers refusal-numbers
 verdict-back (accept line pace) = refl
 verdict-back (refuse r) = refl
 
-pub verdict-tells : (v w : Verdict Pace) → verdict-numbers v ≡ verdict-numbers w → v ≡ w
+pub verdict-tells : (v w : Ruling Pace) → verdict-numbers v ≡ verdict-numbers w → v ≡ w
 verdict-tells = inverse-tells verdict-numbers verdict-read verdict-back
 
 -- ---- so what a caller reads out of the numbers is what the definitions give
@@ -59,6 +59,6 @@ pub numbers-tell-answer : {w : ℕ} {g : Given} {out after : List ℕ} (t : Told
     → told w g (length out) ≡ t
 numbers-tell-answer t p = answer-tells _ t (sym (p .answered))
 
-pub numbers-tell-verdict : {book certificate work after : List ℕ} (v : Verdict Pace)
+pub numbers-tell-verdict : {book certificate work after : List ℕ} (v : Ruling Pace)
     → JudgeTold book certificate work after (verdict-numbers v) → judging book certificate (length work) ≡ v
 numbers-tell-verdict v p = verdict-tells _ v (sym (p .answered))

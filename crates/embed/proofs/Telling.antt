@@ -5,7 +5,7 @@ use mathlib.Core.List.{List, [], _∷_}
 use Rattle.answers.specs.Numbers.{w-of, paper-refusal, paper-answer, paper-pace, paper-verdict}
 use Rattle.answers.specs.declared.Answer.{Answer}
 use Rattle.answers.specs.declared.Answer.the-variants.{Filled, Refused}
-use Rattle.answers.specs.declared.Refusal.{Refusal as Fault}
+use Rattle.answers.specs.declared.Refusal.{Refusal}
 use Rattle.layout.specs.Answers.{Given}
 use Rattle.layout.specs.Promises.{Answers}
 use Rattle.answers.specs.declared.Acceptance.{Acceptance}
@@ -17,7 +17,7 @@ use Rattle.embed.specs.Promises.{FileTold, JudgeTold}
 
 -- ---- the numbers of each kind of answer
 
-pub of-refusal : (r : Fault) {w : ℕ} → w ≡ w-of (r .w)
+pub of-refusal : (r : Refusal) {w : ℕ} → w ≡ w-of (r .w)
     → 1 ∷ r .number ∷ w ∷ r .a ∷ r .b ∷ [] ≡ refusal-numbers (paper-refusal r)
 unfolding refusal-numbers paper-refusal
 of-refusal r h = rw h
@@ -26,7 +26,7 @@ pub of-filled : {said : Answer} {n : ℕ} → said ≡ Filled n → 0 ∷ n ∷ 
 unfolding answer-numbers paper-answer
 of-filled e = rw e
 
-pub of-refused : {said : Answer} {r : Fault} {numbers : List ℕ} → said ≡ Refused r → numbers ≡ refusal-numbers (paper-refusal r)
+pub of-refused : {said : Answer} {r : Refusal} {numbers : List ℕ} → said ≡ Refused r → numbers ≡ refusal-numbers (paper-refusal r)
     → numbers ≡ answer-numbers (paper-answer said)
 unfolding answer-numbers paper-answer
 of-refused e p = p ∙ rw e
@@ -36,7 +36,7 @@ pub of-accepted : {v : Verdict} (a : Acceptance) → v ≡ Accepted a
 unfolding verdict-numbers paper-verdict paper-pace
 of-accepted a e = rw e
 
-pub of-denied : {v : Verdict} {r : Fault} {numbers : List ℕ} → v ≡ Denied r → numbers ≡ refusal-numbers (paper-refusal r)
+pub of-denied : {v : Verdict} {r : Refusal} {numbers : List ℕ} → v ≡ Denied r → numbers ≡ refusal-numbers (paper-refusal r)
     → numbers ≡ verdict-numbers (paper-verdict v)
 unfolding verdict-numbers paper-verdict
 of-denied e p = p ∙ rw e

@@ -3,11 +3,11 @@ use Prim.Native.Nat.{ℕ}
 use mathlib.Core.List.{List, [], _∷_}
 use Rattle.answers.specs.Numbers.{Told, filled-with, refused-with}
 use Rattle.patterns.specs.First.{Pace}
-use Rattle.patterns.specs.Refusal.{Refusal}
-use Rattle.patterns.specs.Judge.{Verdict, accept, refuse}
+use Rattle.patterns.specs.Reason.{Reason}
+use Rattle.patterns.specs.Judge.{Ruling, accept, refuse}
 
 -- 01: "A refusal carries its number, W [..], A and B."
-unfoldable pub refusal-numbers : Refusal → List ℕ
+unfoldable pub refusal-numbers : Reason → List ℕ
 refusal-numbers r = 1 ∷ r .number ∷ r .w ∷ r .a ∷ r .b ∷ []
 
 -- 01: "they answer the number of places filled"
@@ -16,6 +16,6 @@ answer-numbers (filled-with n) = 0 ∷ n ∷ 0 ∷ 0 ∷ 0 ∷ []
 answer-numbers (refused-with r) = refusal-numbers r
 
 -- 01: "An accepting answer gives the line, k and α."
-unfoldable pub verdict-numbers : Verdict Pace → List ℕ
+unfoldable pub verdict-numbers : Ruling Pace → List ℕ
 verdict-numbers (accept line pace) = 0 ∷ line ∷ pace .k ∷ pace .α ∷ 0 ∷ []
 verdict-numbers (refuse r) = refusal-numbers r

@@ -5,7 +5,7 @@ use answers::Answer;
 use answers::Refusal;
 use answers::Verdict;
 ghost use mathlib.Core.Path.{_≡_};
-ghost use Rattle.patterns.specs.Refusal.{book-place, certificate-place};
+ghost use Rattle.patterns.specs.Reason.{book-place, certificate-place};
 ghost use Rattle.layout.specs.Answers.{
   reading-book,
   writing-book,

@@ -4,7 +4,7 @@ use mathlib.Core.Path.{_≡_, refl, sym, subst}
 use mathlib.Core.List.{List}
 use mathlib.Core.Option.{Option, none, some}
 use native.Mathlib.Omega.{arith}
-use Rattle.fields.specs.declared.Cursor.{Cursor}
+use Rattle.fields.specs.declared.Walker.{Walker}
 use Rattle.fields.specs.declared.Walk.{Walk}
 use Rattle.fields.specs.declared.Walk.the-variants.{On}
 use Rattle.fields.proofs.Ranges.{passes-exactly}
@@ -12,7 +12,7 @@ use Rattle.fields.proofs.Seqs.{found, ran-ok}
 use Rattle.fields.specs.declared.Field.{Field}
 use Rattle.fields.specs.declared.Field.the-variants.{Got, Bad}
 use Rattle.fields.specs.Source.{Source}
-use Rattle.fields.specs.Kinds.{Kind, bits, from-to, InRange, test}
+use Rattle.fields.specs.Kinds.{FieldKind, bits, from-to, InRange, test}
 use Rattle.fields.specs.Grammar.{Grammar, done, ask, bind, field, look, onField, tested}
 use Rattle.fields.specs.Run.{State, state, passed, run, Ran}
 use Rattle.fields.specs.Run.Result.{ok, no}
@@ -62,11 +62,11 @@ unfolding Always
 always-weaken P Q f (done a) h = f a h
 always-weaken P Q f (ask k r next) h = λ v t. always-weaken P Q f (next v) (h v t)
 
-pub field-below : (k : Kind) (least end : ℕ) → Always (λ v. v < end) (field k (from-to least end))
+pub field-below : (k : FieldKind) (least end : ℕ) → Always (λ v. v < end) (field k (from-to least end))
 unfolding Always field InRange
 field-below k least end v t = passes-exactly (from-to least end) v .0 t .1 .1
 
-module _ {A : Type 0} {src : Source} {p : Grammar A} {c d : Cursor} {ws bs ws₁ bs₁ : List ℕ} {val : A → ℕ} {r : Walk} {v : ℕ} (h : Ran src p c ws bs val r ws₁ bs₁) (e : r ≡ On v d) where
+module _ {A : Type 0} {src : Source} {p : Grammar A} {c d : Walker} {ws bs ws₁ bs₁ : List ℕ} {val : A → ℕ} {r : Walk} {v : ℕ} (h : Ran src p c ws bs val r ws₁ bs₁) (e : r ≡ On v d) where
   -- what is true of the number of every tree is true of the number that a walk hands back
   pub always-handed : (Q : ℕ → Type 0) → Always (λ a. Q (val a)) p → Q v
   always-handed Q k =
@@ -79,6 +79,6 @@ module _ {A : Type 0} {src : Source} {p : Grammar A} {c d : Cursor} {ws bs ws₁
       let x = found h e in
       ran-ok (x .2) (sym (always-run (λ a. num a ≡ n) src p k (state c ws bs) (x .0) (state d ws₁ bs₁) (x .2)))
 
-pub taken-below : {src : Source} (k : Kind) (least end : ℕ) {c d : Cursor} {ws bs ws₁ bs₁ : List ℕ} {r : Walk} {v : ℕ}
+pub taken-below : {src : Source} (k : FieldKind) (least end : ℕ) {c d : Walker} {ws bs ws₁ bs₁ : List ℕ} {r : Walk} {v : ℕ}
     → Ran src (field k (from-to least end)) c ws bs (λ v. v) r ws₁ bs₁ → r ≡ On v d → v < end
 taken-below k least end h e = always-handed h e (λ v. v < end) (field-below k least end)

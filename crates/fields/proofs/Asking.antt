@@ -1,10 +1,10 @@
 -- What is true of every field that a grammar can ask for: one grammar after the other, and where fields have led.
 use mathlib.Core.Bool.{Bool, true, false, cond}
-use Rattle.fields.specs.Kinds.{Kind, Range}
+use Rattle.fields.specs.Kinds.{FieldKind, Range}
 use Rattle.fields.specs.Grammar.{Grammar, done, ask, bind, field}
 use Rattle.fields.specs.Asks.{Asks}
 
-module _ (P : Kind → Range → Type 0) where
+module _ (P : FieldKind → Range → Type 0) where
   pub asks-bind : {A B : Type 0} (p : Grammar A) (f : A → Grammar B) → Asks P p → ((a : A) → Asks P (f a)) → Asks P (bind p f)
   unfolding Asks bind
   asks-bind (done a) f h g = g a
@@ -14,7 +14,7 @@ module _ (P : Kind → Range → Type 0) where
   asks-cond true p q h k = h
   asks-cond false p q h k = k
 
-  pub asks-field : (k : Kind) (r : Range) → P k r → Asks P (field k r)
+  pub asks-field : (k : FieldKind) (r : Range) → P k r → Asks P (field k r)
   unfolding Asks field
   asks-field k r h = (h, λ v. tt)
 

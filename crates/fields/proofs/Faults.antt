@@ -11,10 +11,10 @@ use lib.ListN.{length}
 use Rattle.bits.specs.Bits.{bitsAt}
 use Rattle.bits.specs.Packed.{width}
 use Rattle.bits.proofs.Fitting.{read-yes, read-past}
-use Rattle.fields.specs.declared.Cursor.{Cursor}
+use Rattle.fields.specs.declared.Walker.{Walker}
 use Rattle.fields.specs.declared.Field.the-variants.{Got, Bad}
-use Rattle.fields.specs.Source.{from, fieldAt, start}
-use Rattle.fields.specs.Kinds.{Kind, bits, Range, InRange, Unnormal, Spent}
+use Rattle.fields.specs.Source.{source, fieldAt, start}
+use Rattle.fields.specs.Kinds.{FieldKind, bits, Range, InRange, Unnormal, Spent}
 use Rattle.fields.specs.Grammar.{Grammar, ask, Outcome, outcome, trace}
 use Rattle.fields.specs.Faults.{Reached, Fault}
 use Rattle.fields.proofs.Ranges.{outside-exactly, unnormal-exactly}
@@ -23,7 +23,7 @@ use Rattle.fields.proofs.Sources.{field-packed}
 use Rattle.fields.proofs.Ways.{way-to}
 use Rattle.fields.proofs.Binds.{after, end-no}
 use Rattle.fields.proofs.Gives.{Gives, narrow-reached, reads-give}
-use Rattle.fields.proofs.Found.{trace-sized, trace-reads, trace-room}
+use Rattle.fields.proofs.Reading.{trace-sized, trace-reads, trace-room}
 use Rattle.fields.proofs.Leads.{Why, way-stops, led-narrow, led-few, led-outcome}
 use Rattle.fields.proofs.Stops.{why, stops-spent, stops-bad, stops-refused}
 
@@ -33,7 +33,7 @@ use Rattle.fields.proofs.Stops.{why, stops-spent, stops-bad, stops-refu
 abbrev pub Short : List ℕ → Type 0
 Short s = 8 * length s < 2 ^ 32
 
-module _ (s : List ℕ) (short : Short s) (k : Kind) (d : Cursor) (few : d .n < 2 ^ 32) (inside : d .bit ≤ 8 * length s) (packed : d .listed ≡ false) where
+module _ (s : List ℕ) (short : Short s) (k : FieldKind) (d : Walker) (few : d .n < 2 ^ 32) (inside : d .bit ≤ 8 * length s) (packed : d .listed ≡ false) where
   byte-there : d .bit + bits k ≤ 8 * length s → fieldAt s [] (bits k) d ≡ Got (bitsAt s (d .bit) (bits k))
   byte-there h =
       field-packed s [] (bits k) d (bits-few k .1) few (omega arith) packed _
@@ -44,10 +44,10 @@ module _ (s : List ℕ) (short : Short s) (k : Kind) (d : Cursor) (few : d .n < 
       field-packed s [] (bits k) d (bits-few k .1) few (omega arith) packed _ (sym (read-past s (bits k) (d .bit) (omega arith)))
 
 module _ {A : Type 0} (s : List ℕ) (p : Grammar A) (short : Short s) where
-  byte-fault : (k : Kind) (r : Range) (next : ℕ → Grammar A) (d : Cursor) (m : ℕ) → d .n < 2 ^ 32 → d .listed ≡ false
-      → Reached s p (d .bit) (ask k r next) → Why (from s []) k r d m → Fault s p m (d .bit)
+  byte-fault : (k : FieldKind) (r : Range) (next : ℕ → Grammar A) (d : Walker) (m : ℕ) → d .n < 2 ^ 32 → d .listed ≡ false
+      → Reached s p (d .bit) (ask k r next) → Why (source s []) k r d m → Fault s p m (d .bit)
   byte-fault k r next d m few packed at w =
-      why (from s []) k r d m w (λ h e. Fault.too-many at h e)
+      why (source s []) k r d m w (λ h e. Fault.too-many at h e)
       (λ h e. unreadable h e (decLe (d .bit + bits k) (8 * length s)))
       (λ h v e i q. readable v e (decLe (d .bit + bits k) (8 * length s)) λ l g. Fault.outside at h l (subst (λ x. ¬ (InRange r x)) g i) q)
       (λ h v e i u q.
@@ -68,26 +68,26 @@ module _ {A : Type 0} (s : List ℕ) (p : Grammar A) (short : Short s) where
           let z : _≡_ {A = ℕ} 0 1 = cc in absurd (omega arith)
 
   -- what a run stops with is the first fault
-  pub stopped-fault : {m : ℕ} {d : Cursor} → outcome (from s []) p (start false) ≡ Outcome.no m d → Fault s p m (d .bit)
+  pub stopped-fault : {m : ℕ} {d : Walker} → outcome (source s []) p (start false) ≡ Outcome.no m d → Fault s p m (d .bit)
   stopped-fault {m} {d} e =
-      let fs = trace (from s []) p (start false) in
+      let fs = trace (source s []) p (start false) in
       let x = way-stops (way-to e) (trace-sized s [] p (start false)) in
-      let q : d ≡ after (start false) fs = end-no (from s []) p (start false) e in
-      let b : d .bit ≡ 0 + width fs = ap (λ (c : Cursor). c .bit) q in
-      let n : d .n ≡ 0 + length fs = ap (λ (c : Cursor). c .n) q in
-      let i : d .listed ≡ false = ap (λ (c : Cursor). c .listed) q in
+      let q : d ≡ after (start false) fs = end-no (source s []) p (start false) e in
+      let b : d .bit ≡ 0 + width fs = ap (λ (c : Walker). c .bit) q in
+      let n : d .n ≡ 0 + length fs = ap (λ (c : Walker). c .n) q in
+      let i : d .listed ≡ false = ap (λ (c : Walker). c .listed) q in
       let l = trace-room s [] p (start false) refl (omega arith) in
       byte-fault (x .kind) (x .range) (x .next) d m (omega (arith, led-few (x .led))) i
       (record { fields = fs; led = x .led; stand = trace-reads s [] p (start false) refl; ends = omega arith; inside = omega arith })
-      (subst (λ c. Why (from s []) (x .kind) (x .range) c m) (sym q) (x .why))
+      (subst (λ c. Why (source s []) (x .kind) (x .range) c m) (sym q) (x .why))
 
   -- and back: the fields up to the first fault are passed
 
   module _ {q : Grammar A} (place : ℕ) (at : Reached s p place q) where
-    abbrev end : Cursor
+    abbrev end : Walker
     end = after (start false) (at .fields)
 
-    pub reached-gives : Gives (from s []) (start false) (at .fields)
+    pub reached-gives : Gives (source s []) (start false) (at .fields)
     reached-gives =
         let e = at .ends in
         let i = at .inside in
@@ -104,18 +104,18 @@ module _ {A : Type 0} (s : List ℕ) (p : Grammar A) (short : Short s) where
     close : end .bit ≤ 8 * length s
     close = let e = at .ends in let i = at .inside in omega arith
 
-    pub reached-outcome : outcome (from s []) p (start false) ≡ outcome (from s []) q end
-    reached-outcome = led-outcome (from s []) (start false) (at .led) reached-gives
+    pub reached-outcome : outcome (source s []) p (start false) ≡ outcome (source s []) q end
+    reached-outcome = led-outcome (source s []) (start false) (at .led) reached-gives
 
   -- 3 to 6 are what a run stops with
   pub fault-stops : (m place : ℕ) → Fault s p m place → m ≢ 7
-      → (d : Cursor) × (d .bit ≡ place) × (outcome (from s []) p (start false) ≡ Outcome.no m d)
+      → (d : Walker) × (d .bit ≡ place) × (outcome (source s []) p (start false) ≡ Outcome.no m d)
   fault-stops m place (Fault.past-end {k = k} {r = r} {next = next} at h l e) n =
       let b = reached-bit place at in (
         end place at,
         b,
         reached-outcome place at
-            ∙ stops-bad (from s []) k r next (end place at) h m
+            ∙ stops-bad (source s []) k r next (end place at) h m
             (byte-past s short k (end place at) (few place at) (close place at) refl (omega arith) ∙ ap Bad (sym e)),
       )
   fault-stops m place (Fault.outside {k = k} {r = r} {next = next} at h l i e) n =
@@ -123,7 +123,7 @@ module _ {A : Type 0} (s : List ℕ) (p : Grammar A) (short : Short s) where
         end place at,
         b,
         reached-outcome place at
-            ∙ stops-refused (from s []) k r next (end place at) h (bitsAt s (end place at .bit) (bits k)) m
+            ∙ stops-refused (source s []) k r next (end place at) h (bitsAt s (end place at .bit) (bits k)) m
             (byte-there s short k (end place at) (few place at) (close place at) refl (omega arith))
             (outside-exactly r (bitsAt s (end place at .bit) (bits k)) .1 (h, subst (λ x. ¬ (InRange r (bitsAt s x (bits k)))) (sym b) i) ∙ ap some (sym e)),
       )
@@ -132,7 +132,7 @@ module _ {A : Type 0} (s : List ℕ) (p : Grammar A) (short : Short s) where
         end place at,
         b,
         reached-outcome place at
-            ∙ stops-refused (from s []) k r next (end place at) h (bitsAt s (end place at .bit) (bits k)) m
+            ∙ stops-refused (source s []) k r next (end place at) h (bitsAt s (end place at .bit) (bits k)) m
             (byte-there s short k (end place at) (few place at) (close place at) refl (omega arith))
             (unnormal-exactly r (bitsAt s (end place at .bit) (bits k)) .1
             (h, subst (λ x. InRange r (bitsAt s x (bits k))) (sym b) i, subst (λ x. Unnormal r (bitsAt s x (bits k))) (sym b) u) ∙ ap some (sym e)),
@@ -140,6 +140,6 @@ module _ {A : Type 0} (s : List ℕ) (p : Grammar A) (short : Short s) where
   fault-stops m place (Fault.too-many {k = k} {r = r} {next = next} at h e) n = (
     end place at,
     reached-bit place at,
-    reached-outcome place at ∙ stops-spent (from s []) k r next (end place at) h ∙ ap (λ (x : ℕ). Outcome.no x (end place at)) (sym e),
+    reached-outcome place at ∙ stops-spent (source s []) k r next (end place at) h ∙ ap (λ (x : ℕ). Outcome.no x (end place at)) (sym e),
   )
   fault-stops m place (Fault.left-over at h e) n = absurd (n e)

@@ -12,14 +12,14 @@ use lib.Dec.{ltb}
 use Rattle.bits.specs.Bits.{bitsAt, roomOf, readField}
 use Rattle.bits.specs.Packed.{width, Reads, Sized}
 use Rattle.bits.specs.Written.{Narrow}
-use Rattle.bits.specs.declared.Field.{Field as Bits}
-use Rattle.bits.specs.declared.Field.the-variants.{Got as gotBits, Past as noBits}
+use Rattle.bits.specs.declared.Taken.{Taken as Bits}
+use Rattle.bits.specs.declared.Taken.the-variants.{Got as gotBits, Past as noBits}
 use Rattle.bits.proofs.Bytes.{bits-lt}
 use Rattle.bits.proofs.Fitting.{read-yes, read-got}
-use Rattle.fields.specs.declared.Cursor.{Cursor}
+use Rattle.fields.specs.declared.Walker.{Walker}
 use Rattle.fields.specs.declared.Field.{Field}
 use Rattle.fields.specs.declared.Field.the-variants.{Got, Bad}
-use Rattle.fields.specs.Source.{Source, onward, from, fieldAt, listedField, ofBits}
+use Rattle.fields.specs.Source.{Source, moved, source, fieldAt, listedField, ofBits}
 use Rattle.fields.proofs.Sources.{Near, got-near, field-listed, field-packed, listed-got}
 use Rattle.fields.proofs.Sinks.{values}
 
@@ -41,7 +41,7 @@ got-number l w n v e =
     let same : getD l n 0 ≡ v = cc in
     (ltb-true n (length l) (h .0), same, rw same at (ltb-true (getD l n 0) (2 ^ w) (k .0)))
 
-module _ (s l : List ℕ) (w : ℕ) (c : Cursor) where
+module _ (s l : List ℕ) (w : ℕ) (c : Walker) where
   from-bytes : Near w c → c .listed ≡ false → fieldAt s l w c ≡ ofBits (readField s w (c .bit))
   from-bytes h b = field-packed s l w c (h .narrow) (h .few) (h .close) b _ refl
 
@@ -69,87 +69,87 @@ module _ (s l : List ℕ) (w : ℕ) (c : Cursor) where
 
 -- ---- fields one after the other
 
--- the source gives the fields from the cursor on
-unfoldable pub Gives : Source → Cursor → List (ℕ × ℕ) → Type 0
+-- the source gives the fields from the walker on
+unfoldable pub Gives : Source → Walker → List (ℕ × ℕ) → Type 0
 Gives src c [] = Unit {0}
-Gives src c (f ∷ fs) = (src (f .0) c ≡ Got (f .1)) × Gives src (onward (f .0) c) fs
+Gives src c (f ∷ fs) = (src (f .0) c ≡ Got (f .1)) × Gives src (moved (f .0) c) fs
 
--- each of the fields from the cursor on is in reach
-unfoldable pub Reached : Cursor → List (ℕ × ℕ) → Type 0
-Reached c [] = Unit {0}
-Reached c (f ∷ fs) = Near (f .0) c × Reached (onward (f .0) c) fs
+-- each of the fields from the walker on is in reach
+unfoldable pub ReachedBy : Walker → List (ℕ × ℕ) → Type 0
+ReachedBy c [] = Unit {0}
+ReachedBy c (f ∷ fs) = Near (f .0) c × ReachedBy (moved (f .0) c) fs
 
 -- the values stand in a list from place n on
 unfoldable pub Stands : List ℕ → ℕ → List (ℕ × ℕ) → Type 0
 Stands l n [] = Unit {0}
 Stands l n (f ∷ fs) = (n < length l) × (getD l n 0 ≡ f .1) × Stands l (n + 1) fs
 
-pub reached-narrow : (c : Cursor) (fs : List (ℕ × ℕ)) → Reached c fs → Narrow fs
-unfolding Reached Narrow
+pub reached-narrow : (c : Walker) (fs : List (ℕ × ℕ)) → ReachedBy c fs → Narrow fs
+unfolding ReachedBy Narrow
 reached-narrow c [] r = tt
-reached-narrow c (f ∷ fs) r = (r .0 .narrow, reached-narrow (onward (f .0) c) fs (r .1))
+reached-narrow c (f ∷ fs) r = (r .0 .narrow, reached-narrow (moved (f .0) c) fs (r .1))
 
 -- narrow fields are in reach as long as they end before the first 2 ^ 32
-pub narrow-reached : (c : Cursor) (fs : List (ℕ × ℕ)) → Narrow fs → c .n + length fs ≤ 2 ^ 32 → c .bit + width fs < 2 ^ 32 → Reached c fs
-unfolding Reached Narrow width
+pub narrow-reached : (c : Walker) (fs : List (ℕ × ℕ)) → Narrow fs → c .n + length fs ≤ 2 ^ 32 → c .bit + width fs < 2 ^ 32 → ReachedBy c fs
+unfolding ReachedBy Narrow width
 narrow-reached c [] h n b = tt
 narrow-reached c (f ∷ fs) h n b = (
   record { narrow = h .0; few = omega arith; close = omega arith },
-  narrow-reached (onward (f .0) c) fs (h .1) (omega arith) (omega arith),
+  narrow-reached (moved (f .0) c) fs (h .1) (omega arith) (omega arith),
 )
 
 -- in bytes or in a list, the reach is the same
-pub reached-in : (c : Cursor) (fs : List (ℕ × ℕ)) (b : Bool) → Reached c fs → Reached (record { bit = c .bit; n = c .n; listed = b }) fs
-unfolding Reached
+pub reached-in : (c : Walker) (fs : List (ℕ × ℕ)) (b : Bool) → ReachedBy c fs → ReachedBy (record { bit = c .bit; n = c .n; listed = b }) fs
+unfolding ReachedBy
 reached-in c [] b r = tt
-reached-in c (f ∷ fs) b r = (record { narrow = r .0 .narrow; few = r .0 .few; close = r .0 .close }, reached-in (onward (f .0) c) fs b (r .1))
+reached-in c (f ∷ fs) b r = (record { narrow = r .0 .narrow; few = r .0 .few; close = r .0 .close }, reached-in (moved (f .0) c) fs b (r .1))
 
 module _ (s l : List ℕ) where
-  pub gives-reached : (c : Cursor) (fs : List (ℕ × ℕ)) → Gives (from s l) c fs → Reached c fs
-  unfolding Gives Reached
+  pub gives-reached : (c : Walker) (fs : List (ℕ × ℕ)) → Gives (source s l) c fs → ReachedBy c fs
+  unfolding Gives ReachedBy
   gives-reached c [] g = tt
-  gives-reached c (f ∷ fs) g = (got-near s l (f .0) c (f .1) (g .0), gives-reached (onward (f .0) c) fs (g .1))
+  gives-reached c (f ∷ fs) g = (got-near s l (f .0) c (f .1) (g .0), gives-reached (moved (f .0) c) fs (g .1))
 
-  pub gives-sized : (c : Cursor) (fs : List (ℕ × ℕ)) → Gives (from s l) c fs → Sized fs
+  pub gives-sized : (c : Walker) (fs : List (ℕ × ℕ)) → Gives (source s l) c fs → Sized fs
   unfolding Gives Sized
   gives-sized c [] g = tt
-  gives-sized c (f ∷ fs) g = (got-small s l (f .0) c (f .1) (g .0), gives-sized (onward (f .0) c) fs (g .1))
+  gives-sized c (f ∷ fs) g = (got-small s l (f .0) c (f .1) (g .0), gives-sized (moved (f .0) c) fs (g .1))
 
   -- ---- bytes
 
-  pub gives-reads : (c : Cursor) (fs : List (ℕ × ℕ)) → c .listed ≡ false → Gives (from s l) c fs → Reads s (c .bit) fs
+  pub gives-reads : (c : Walker) (fs : List (ℕ × ℕ)) → c .listed ≡ false → Gives (source s l) c fs → Reads s (c .bit) fs
   unfolding Gives Reads
   gives-reads c [] b g = tt
-  gives-reads c (f ∷ fs) b g = (got-packed s l (f .0) c (f .1) b (g .0) .0, gives-reads (onward (f .0) c) fs b (g .1))
+  gives-reads c (f ∷ fs) b g = (got-packed s l (f .0) c (f .1) b (g .0) .0, gives-reads (moved (f .0) c) fs b (g .1))
 
-  pub gives-room : (c : Cursor) (fs : List (ℕ × ℕ)) → c .listed ≡ false → c .bit ≤ roomOf s → Gives (from s l) c fs → c .bit + width fs ≤ roomOf s
+  pub gives-room : (c : Walker) (fs : List (ℕ × ℕ)) → c .listed ≡ false → c .bit ≤ roomOf s → Gives (source s l) c fs → c .bit + width fs ≤ roomOf s
   unfolding Gives width
   gives-room c [] b r g = omega arith
-  gives-room c (f ∷ fs) b r g = omega (arith, gives-room (onward (f .0) c) fs b (got-packed s l (f .0) c (f .1) b (g .0) .1) (g .1))
+  gives-room c (f ∷ fs) b r g = omega (arith, gives-room (moved (f .0) c) fs b (got-packed s l (f .0) c (f .1) b (g .0) .1) (g .1))
 
-  pub reads-give : (c : Cursor) (fs : List (ℕ × ℕ)) → c .listed ≡ false → Reached c fs → Reads s (c .bit) fs → c .bit + width fs ≤ roomOf s → Gives (from s l) c fs
-  unfolding Gives Reached Reads width
+  pub reads-give : (c : Walker) (fs : List (ℕ × ℕ)) → c .listed ≡ false → ReachedBy c fs → Reads s (c .bit) fs → c .bit + width fs ≤ roomOf s → Gives (source s l) c fs
+  unfolding Gives ReachedBy Reads width
   reads-give c [] b h r e = tt
   reads-give c (f ∷ fs) b h r e = (
     packed-gives s l (f .0) c (f .1) (h .0) b (r .0) (omega arith),
-    reads-give (onward (f .0) c) fs b (h .1) (r .1) (omega arith),
+    reads-give (moved (f .0) c) fs b (h .1) (r .1) (omega arith),
   )
 
   -- ---- a list
 
-  pub gives-stands : (c : Cursor) (fs : List (ℕ × ℕ)) → c .listed ≡ true → Gives (from s l) c fs → Stands l (c .n) fs
+  pub gives-stands : (c : Walker) (fs : List (ℕ × ℕ)) → c .listed ≡ true → Gives (source s l) c fs → Stands l (c .n) fs
   unfolding Gives Stands
   gives-stands c [] b g = tt
   gives-stands c (f ∷ fs) b g =
       let h = got-listed s l (f .0) c (f .1) b (g .0) in
-      (h .0, h .1, gives-stands (onward (f .0) c) fs b (g .1))
+      (h .0, h .1, gives-stands (moved (f .0) c) fs b (g .1))
 
-  pub stands-give : (c : Cursor) (fs : List (ℕ × ℕ)) → c .listed ≡ true → Reached c fs → Sized fs → Stands l (c .n) fs → Gives (from s l) c fs
-  unfolding Gives Reached Sized Stands
+  pub stands-give : (c : Walker) (fs : List (ℕ × ℕ)) → c .listed ≡ true → ReachedBy c fs → Sized fs → Stands l (c .n) fs → Gives (source s l) c fs
+  unfolding Gives ReachedBy Sized Stands
   stands-give c [] b h k r = tt
   stands-give c (f ∷ fs) b h k r = (
     list-gives s l (f .0) c (f .1) (h .0) b (r .0) (r .1) (k .0),
-    stands-give (onward (f .0) c) fs b (h .1) (k .1) (r .2),
+    stands-give (moved (f .0) c) fs b (h .1) (k .1) (r .2),
   )
 
 -- ---- the values that stand in a list

@@ -7,10 +7,10 @@ use native.Mathlib.Omega.{arith}
 use lib.ListN.{length}
 use Rattle.bits.specs.Packed.{width, Sized}
 use Rattle.bits.specs.Written.{Narrow}
-use Rattle.fields.specs.declared.Cursor.{Cursor}
+use Rattle.fields.specs.declared.Walker.{Walker}
 use Rattle.fields.specs.declared.Field.the-variants.{Got, Bad}
-use Rattle.fields.specs.Source.{Source, onward}
-use Rattle.fields.specs.Kinds.{Kind, bits, Range, test}
+use Rattle.fields.specs.Source.{Source, moved}
+use Rattle.fields.specs.Kinds.{FieldKind, bits, Range, test}
 use Rattle.fields.specs.Grammar.{Grammar, done, ask, look, outcome, trace}
 use Rattle.fields.specs.Grammar.Outcome.{ok, no}
 use Rattle.fields.specs.Faults.{Keeps, Led, here, past}
@@ -23,10 +23,10 @@ use Rattle.fields.proofs.Gives.{Gives}
 
 -- ---- what a field that keeps its rule passes
 
-pub keeps-passes : (k : Kind) (r : Range) (v : ℕ) → Keeps k r v → test r v ≡ none
+pub keeps-passes : (k : FieldKind) (r : Range) (v : ℕ) → Keeps k r v → test r v ≡ none
 keeps-passes k r v h = passes-exactly r v .1 (h .allowed, h .ranged, h .normal)
 
-pub passes-keeps : (k : Kind) (r : Range) (v : ℕ) → v < 2 ^ bits k → test r v ≡ none → Keeps k r v
+pub passes-keeps : (k : FieldKind) (r : Range) (v : ℕ) → v < 2 ^ bits k → test r v ≡ none → Keeps k r v
 passes-keeps k r v l t =
     let h = passes-exactly r v .0 t in record { narrow = l; allowed = h .0; ranged = h .1; normal = h .2 }
 
@@ -51,19 +51,19 @@ module _ {A : Type 0} where
 -- ---- from a run to where it was led
 
 -- why a grammar stops at a field
-pub data Why (src : Source) (k : Kind) (r : Range) (c : Cursor) (m : ℕ) : Type 0 where
+pub data Why (src : Source) (k : FieldKind) (r : Range) (c : Walker) (m : ℕ) : Type 0 where
   unread : look src k r c ≡ Bad m → Why src k r c m
   untaken : (v : ℕ) → look src k r c ≡ Got v → test r v ≡ some m → Why src k r c m
 
-pub record Stopped {A : Type 0} (src : Source) (p : Grammar A) (c : Cursor) (m : ℕ) (fs : List (ℕ × ℕ)) : Type 0 where
-  pub kind : Kind
+pub record StoppedAt {A : Type 0} (src : Source) (p : Grammar A) (c : Walker) (m : ℕ) (fs : List (ℕ × ℕ)) : Type 0 where
+  pub kind : FieldKind
   pub range : Range
   pub next : ℕ → Grammar A
   pub led : Led p fs (ask kind range next)
   pub why : Why src kind range (after c fs) m
 
-stops-past : {A : Type 0} {src : Source} {m : ℕ} (k : Kind) (r : Range) (next : ℕ → Grammar A) (v : ℕ) (c : Cursor) (fs : List (ℕ × ℕ))
-    → Keeps k r v → Stopped src (next v) (onward (bits k) c) m fs → Stopped src (ask k r next) c m ((bits k, v) ∷ fs)
+stops-past : {A : Type 0} {src : Source} {m : ℕ} (k : FieldKind) (r : Range) (next : ℕ → Grammar A) (v : ℕ) (c : Walker) (fs : List (ℕ × ℕ))
+    → Keeps k r v → StoppedAt src (next v) (moved (bits k) c) m fs → StoppedAt src (ask k r next) c m ((bits k, v) ∷ fs)
 stops-past {src = src} {m = m} k r next v c fs h s = record {
   kind = s .kind;
   range = s .range;
@@ -73,12 +73,12 @@ stops-past {src = src} {m = m} k r next v c fs h s = record {
 }
 
 module _ {A : Type 0} {src : Source} where
-  pub way-leads : {p : Grammar A} {c d : Cursor} {a : A} {fs : List (ℕ × ℕ)} → Way src p c (ok a d) fs → Sized fs → Led p fs (done a)
+  pub way-leads : {p : Grammar A} {c d : Walker} {a : A} {fs : List (ℕ × ℕ)} → Way src p c (ok a d) fs → Sized fs → Led p fs (done a)
   unfolding Sized
   way-leads over small = here
   way-leads (pass {k = k} {r = r} {v = v} e t h) small = past (passes-keeps k r v (small .0) t) (way-leads h (small .1))
 
-  pub way-stops : {p : Grammar A} {c d : Cursor} {m : ℕ} {fs : List (ℕ × ℕ)} → Way src p c (no m d) fs → Sized fs → Stopped src p c m fs
+  pub way-stops : {p : Grammar A} {c d : Walker} {m : ℕ} {fs : List (ℕ × ℕ)} → Way src p c (no m d) fs → Sized fs → StoppedAt src p c m fs
   unfolding Sized
   way-stops (bad {k = k} {r = r} {next = next} {c = c} {m = m} e) small = record {
     kind = k;
@@ -100,31 +100,31 @@ module _ {A : Type 0} {src : Source} where
 -- ---- and back: fields that lead, and stand in the source, are passed
 
 module _ {A : Type 0} (src : Source) where
-  module _ (k : Kind) (r : Range) (next : ℕ → Grammar A) (v : ℕ) (c : Cursor) (h : Keeps k r v) (g : src (bits k) c ≡ Got v) where
+  module _ (k : FieldKind) (r : Range) (next : ℕ → Grammar A) (v : ℕ) (c : Walker) (h : Keeps k r v) (g : src (bits k) c ≡ Got v) where
     looks : look src k r c ≡ Got v
     looks = test-look src k r c v (keeps-passes k r v h) ∙ g
 
-    outcome-past : outcome src (ask k r next) c ≡ outcome src (next v) (onward (bits k) c)
+    outcome-past : outcome src (ask k r next) c ≡ outcome src (next v) (moved (bits k) c)
     unfolding outcome
     outcome-past = rw (looks, keeps-passes k r v h)
 
-    trace-past : trace src (ask k r next) c ≡ (bits k, v) ∷ trace src (next v) (onward (bits k) c)
+    trace-past : trace src (ask k r next) c ≡ (bits k, v) ∷ trace src (next v) (moved (bits k) c)
     unfolding trace
     trace-past = rw (looks, keeps-passes k r v h)
 
-  pub led-outcome : {p q : Grammar A} {fs : List (ℕ × ℕ)} (c : Cursor) → Led p fs q → Gives src c fs → outcome src p c ≡ outcome src q (after c fs)
+  pub led-outcome : {p q : Grammar A} {fs : List (ℕ × ℕ)} (c : Walker) → Led p fs q → Gives src c fs → outcome src p c ≡ outcome src q (after c fs)
   unfolding Gives
   led-outcome c (here {p = p}) g = ap (outcome src p) (after-none c)
   led-outcome c (past {k = k} {r = r} {next = next} {v = v} {fs = fs} {q = q} h l) g =
       outcome-past k r next v c h (g .0)
-      ∙ led-outcome (onward (bits k) c) l (g .1)
+      ∙ led-outcome (moved (bits k) c) l (g .1)
       ∙ ap (outcome src q) (after-pass (bits k) v c fs)
 
-  pub led-trace : {p q : Grammar A} {fs : List (ℕ × ℕ)} (c : Cursor) → Led p fs q → Gives src c fs → trace src q (after c fs) ≡ []
+  pub led-trace : {p q : Grammar A} {fs : List (ℕ × ℕ)} (c : Walker) → Led p fs q → Gives src c fs → trace src q (after c fs) ≡ []
       → trace src p c ≡ fs
   unfolding Gives
   led-trace c (here {p = p}) g n = ap (trace src p) (after-none c) ∙ n
   led-trace c (past {k = k} {r = r} {next = next} {v = v} {fs = fs} {q = q} h l) g n =
       trace-past k r next v c h (g .0)
       ∙ ap (λ (x : List (ℕ × ℕ)). (bits k, v) ∷ x)
-      (led-trace (onward (bits k) c) l (g .1) (ap (trace src q) (after-pass (bits k) v c fs) ∙ n))
+      (led-trace (moved (bits k) c) l (g .1) (ap (trace src q) (after-pass (bits k) v c fs) ∙ n))

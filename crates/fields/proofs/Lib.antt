@@ -8,7 +8,7 @@ pub mod Binds
 pub mod Sinks
 pub mod Spelled
 pub mod Gives
-pub mod Found
+pub mod Reading
 pub mod Trips
 pub mod Always
 pub mod Many

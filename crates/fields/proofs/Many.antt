@@ -5,7 +5,7 @@ use mathlib.Core.List.{List, [], _∷_}
 use mathlib.Core.Logic.{_≢_}
 use native.Mathlib.Omega.{arith}
 use lib.ListN.{length}
-use Rattle.fields.specs.declared.Cursor.{Cursor}
+use Rattle.fields.specs.declared.Walker.{Walker}
 use Rattle.fields.specs.declared.Walk.{Walk}
 use Rattle.fields.specs.declared.Walk.the-variants.{On}
 use Rattle.fields.specs.Source.{Source}
@@ -40,7 +40,7 @@ module _ {A B : Type 0} {many : ℕ → ℕ → Grammar B} {one : ℕ → Gramma
   some-left h =
       at-some (λ k. many k x) (λ k. bind (one x) λ a. bind (many k (next x a)) λ b. done (join a b)) (λ k. R .more k x) n h
 
-  module _ {src : Source} {val : B → ℕ} {c : Cursor} {ws bs : List ℕ} where
+  module _ {src : Source} {val : B → ℕ} {c : Walker} {ws bs : List ℕ} where
     pub many-none : n ≡ 0 → Ran src (many n x) c ws bs val (On (val (end x)) c) ws bs
     many-none e = rw (none-left e) (ran-done (end x) c ws bs)
 

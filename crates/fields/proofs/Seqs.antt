@@ -5,13 +5,13 @@ use mathlib.Core.Bool.{true}
 use mathlib.Core.Option.{Option, none, some}
 use Prim.Native.Nat.{ℕ}
 use native.Mathlib.Omega.{arith}
-use Rattle.fields.specs.declared.Cursor.{Cursor}
+use Rattle.fields.specs.declared.Walker.{Walker}
 use Rattle.fields.specs.declared.Field.{Field}
 use Rattle.fields.specs.declared.Field.the-variants.{Got, Bad}
 use Rattle.fields.specs.declared.Walk.{Walk}
 use Rattle.fields.specs.declared.Walk.the-variants.{On, No}
 use Rattle.fields.specs.Source.{Source}
-use Rattle.fields.specs.Kinds.{Kind, bits, Range, test, spent}
+use Rattle.fields.specs.Kinds.{FieldKind, bits, Range, test, spent}
 use Rattle.fields.specs.Grammar.{Grammar, done, ask, bind, look, onField, tested}
 use Rattle.fields.specs.Run.{State, state, passed, Result, run, Shown, shown, Ran}
 use Rattle.fields.specs.Run.Result.{ok, no}
@@ -23,7 +23,7 @@ module _ {A B : Type 0} (src : Source) (f : A → Grammar B) where
   go-on (ok a σ) = run src (f a) σ
   go-on (no m σ) = no m σ
 
-  ask-bind : (k : Kind) (r : Range) (next : ℕ → Grammar A) (σ : State)
+  ask-bind : (k : FieldKind) (r : Range) (next : ℕ → Grammar A) (σ : State)
       → ((v : ℕ) (τ : State) → run src (bind (next v) f) τ ≡ go-on (run src (next v) τ))
       → (x : Field)
       → onField x (λ v. tested (test r v) (run src (bind (next v) f) (passed (bits k) v σ)) (λ m. no m σ)) (λ m. no m σ)
@@ -45,7 +45,7 @@ module _ {A B : Type 0} (src : Source) (f : A → Grammar B) where
 
 -- ---- what a walk shows of a result
 
-module _ {A : Type 0} (val : A → ℕ) (d : Cursor) (ws bs : List ℕ) where
+module _ {A : Type 0} (val : A → ℕ) (d : Walker) (ws bs : List ℕ) where
   shown-on : (x : Result A) (v : ℕ) → record { walk = On v d; words = ws; bytes = bs } ≡ shown val x
       → (a : A) × (val a ≡ v) × (x ≡ ok a (state d ws bs))
   shown-on (ok a σ) v p =
@@ -74,21 +74,21 @@ module _ {A : Type 0} (val : A → ℕ) (d : Cursor) (ws bs : List ℕ) where
 
 -- ---- two walks
 
-module _ {A : Type 0} {src : Source} {p : Grammar A} {c : Cursor} {ws bs : List ℕ} {val : A → ℕ} {r : Walk} {ws₁ bs₁ : List ℕ} (first : Ran src p c ws bs val r ws₁ bs₁) where
+module _ {A : Type 0} {src : Source} {p : Grammar A} {c : Walker} {ws bs : List ℕ} {val : A → ℕ} {r : Walk} {ws₁ bs₁ : List ℕ} (first : Ran src p c ws bs val r ws₁ bs₁) where
   -- what was found, where the first walk went on
-  pub found : {v : ℕ} {d : Cursor} → r ≡ On v d
+  pub found : {v : ℕ} {d : Walker} → r ≡ On v d
       → (a : A) × (val a ≡ v) × (run src p (state c ws bs) ≡ ok a (state d ws₁ bs₁))
   found {v} {d} e =
       shown-on val d ws₁ bs₁ (run src p (state c ws bs)) v
       (subst (λ x. record { walk = x; words = ws₁; bytes = bs₁ } ≡ shown val (run src p (state c ws bs))) e (first .told))
 
-  pub refused : {m : ℕ} {d : Cursor} → r ≡ No m d → run src p (state c ws bs) ≡ no m (state d ws₁ bs₁)
+  pub refused : {m : ℕ} {d : Walker} → r ≡ No m d → run src p (state c ws bs) ≡ no m (state d ws₁ bs₁)
   refused {m} {d} e =
       shown-no val d ws₁ bs₁ (run src p (state c ws bs)) m
       (subst (λ x. record { walk = x; words = ws₁; bytes = bs₁ } ≡ shown val (run src p (state c ws bs))) e (first .told))
 
   -- it was refused: so is the whole
-  pub seq-no : {B : Type 0} (f : A → Grammar B) {val₂ : B → ℕ} {m : ℕ} {d : Cursor} → r ≡ No m d
+  pub seq-no : {B : Type 0} (f : A → Grammar B) {val₂ : B → ℕ} {m : ℕ} {d : Walker} → r ≡ No m d
       → Ran src (bind p f) c ws bs val₂ (No m d) ws₁ bs₁
   unfolding go-on
   seq-no f {val₂} {m} {d} e = record {
@@ -96,7 +96,7 @@ module _ {A : Type 0} {src : Source} {p : Grammar A} {c : Cursor} {ws bs : List 
   }
 
   -- it went on: the whole is the second walk over what was found
-  pub seq-found : {B : Type 0} (f : A → Grammar B) {val₂ : B → ℕ} {v : ℕ} {d : Cursor} {r₂ : Walk} {ws₂ bs₂ : List ℕ}
+  pub seq-found : {B : Type 0} (f : A → Grammar B) {val₂ : B → ℕ} {v : ℕ} {d : Walker} {r₂ : Walk} {ws₂ bs₂ : List ℕ}
       → r ≡ On v d
       → ((a : A) → run src p (state c ws bs) ≡ ok a (state d ws₁ bs₁) → Ran src (f a) d ws₁ bs₁ val₂ r₂ ws₂ bs₂)
       → Ran src (bind p f) c ws bs val₂ r₂ ws₂ bs₂
@@ -110,7 +110,7 @@ module _ {A : Type 0} {src : Source} {p : Grammar A} {c : Cursor} {ws bs : List 
       }
 
   -- of what was found only a number need be known
-  pub seq-on : {B : Type 0} (f : A → Grammar B) {val₂ : B → ℕ} {v : ℕ} {d : Cursor} {r₂ : Walk} {ws₂ bs₂ : List ℕ} → r ≡ On v d
+  pub seq-on : {B : Type 0} (f : A → Grammar B) {val₂ : B → ℕ} {v : ℕ} {d : Walker} {r₂ : Walk} {ws₂ bs₂ : List ℕ} → r ≡ On v d
       → ((a : A) → val a ≡ v → Ran src (f a) d ws₁ bs₁ val₂ r₂ ws₂ bs₂) → Ran src (bind p f) c ws bs val₂ r₂ ws₂ bs₂
   unfolding go-on
   seq-on f {val₂} e second =
@@ -121,7 +121,7 @@ module _ {A : Type 0} {src : Source} {p : Grammar A} {c : Cursor} {ws bs : List 
       }
 
 -- a number that was found is known
-pub seq-at : {B : Type 0} {src : Source} {p : Grammar ℕ} (f : ℕ → Grammar B) {c d : Cursor} {ws bs ws₁ bs₁ ws₂ bs₂ : List ℕ}
+pub seq-at : {B : Type 0} {src : Source} {p : Grammar ℕ} (f : ℕ → Grammar B) {c d : Walker} {ws bs ws₁ bs₁ ws₂ bs₂ : List ℕ}
     {val₂ : B → ℕ} {r r₂ : Walk} {v : ℕ}
     → Ran src p c ws bs (λ v. v) r ws₁ bs₁ → r ≡ On v d → Ran src (f v) d ws₁ bs₁ val₂ r₂ ws₂ bs₂
     → Ran src (bind p f) c ws bs val₂ r₂ ws₂ bs₂
@@ -138,7 +138,7 @@ shown-last src h val val₂ same (ok a σ) =
 shown-last src h val val₂ same (no m σ) = refl
 
 -- a tree is put together, with the same number
-pub seq-last : {A B : Type 0} {src : Source} {p : Grammar A} (h : A → B) {c : Cursor} {ws bs ws₁ bs₁ : List ℕ} {val : A → ℕ} {val₂ : B → ℕ} {r : Walk}
+pub seq-last : {A B : Type 0} {src : Source} {p : Grammar A} (h : A → B) {c : Walker} {ws bs ws₁ bs₁ : List ℕ} {val : A → ℕ} {val₂ : B → ℕ} {r : Walk}
     → ((a : A) → val₂ (h a) ≡ val a) → Ran src p c ws bs val r ws₁ bs₁
     → Ran src (bind p (λ a. done (h a))) c ws bs val₂ r ws₁ bs₁
 seq-last {src} {p} h {c} {ws} {bs} {val} {val₂} same first = record {
@@ -150,20 +150,20 @@ seq-last {src} {p} h {c} {ws} {bs} {val} {val₂} same first = record {
 }
 
 -- nothing is left to read
-pub ran-done : {A : Type 0} {src : Source} {val : A → ℕ} (a : A) (c : Cursor) (ws bs : List ℕ)
+pub ran-done : {A : Type 0} {src : Source} {val : A → ℕ} (a : A) (c : Walker) (ws bs : List ℕ)
     → Ran src (done a) c ws bs val (On (val a) c) ws bs
 unfolding run
 ran-done a c ws bs = record { told = refl }
 
 -- no node is allowed any more
-pub ran-spent : {A : Type 0} {src : Source} {val : A → ℕ} (k : Kind) (r : Range) (next : ℕ → Grammar A) (c : Cursor) (ws bs : List ℕ)
+pub ran-spent : {A : Type 0} {src : Source} {val : A → ℕ} (k : FieldKind) (r : Range) (next : ℕ → Grammar A) (c : Walker) (ws bs : List ℕ)
     → spent r ≡ true → Ran src (ask k r next) c ws bs val (No 6 c) ws bs
 unfolding run
 ran-spent k r next c ws bs e = record { told = rw e }
 
 -- ---- a walk by its result
 
-module _ {A : Type 0} {src : Source} {p : Grammar A} {c d : Cursor} {ws bs ws₁ bs₁ : List ℕ} {val : A → ℕ} where
+module _ {A : Type 0} {src : Source} {p : Grammar A} {c d : Walker} {ws bs ws₁ bs₁ : List ℕ} {val : A → ℕ} where
   pub ran-ok : {a : A} {v : ℕ} → run src p (state c ws bs) ≡ ok a (state d ws₁ bs₁) → v ≡ val a
       → Ran src p c ws bs val (On v d) ws₁ bs₁
   ran-ok e q = record {

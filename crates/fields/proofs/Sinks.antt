@@ -12,7 +12,7 @@ use Rattle.bits.specs.Put.{putField}
 use Rattle.bits.specs.Written.{Narrow, written}
 use Rattle.bits.proofs.InOrder.{put-next}
 use Rattle.bits.proofs.PackedFields.{width-one}
-use Rattle.fields.specs.declared.Cursor.{Cursor}
+use Rattle.fields.specs.declared.Walker.{Walker}
 use Rattle.fields.specs.Source.{Source}
 use Rattle.fields.specs.Kinds.{bits}
 use Rattle.fields.specs.Grammar.{Grammar, Outcome, outcome, trace}
@@ -41,7 +41,7 @@ abbrev pub sunk : {A : Type 0} → Outcome A → List ℕ → List ℕ → Resul
 sunk (ok a d) ws bs = Result.ok a (state d ws bs)
 sunk (no m d) ws bs = Result.no m (state d ws bs)
 
-pub way-run : {A : Type 0} {src : Source} {p : Grammar A} {c : Cursor} {o : Outcome A} {fs : List (ℕ × ℕ)} (ws bs : List ℕ) → Way src p c o fs
+pub way-run : {A : Type 0} {src : Source} {p : Grammar A} {c : Walker} {o : Outcome A} {fs : List (ℕ × ℕ)} (ws bs : List ℕ) → Way src p c o fs
     → run src p (state c ws bs) ≡ sunk o (sets ws (c .n) fs) (puts bs (c .bit) fs)
 unfolding run sets puts
 way-run ws bs over = refl
@@ -49,11 +49,11 @@ way-run ws bs (bad e) = rw e
 way-run ws bs (refused e t) = rw (e, t)
 way-run {c = c} ws bs (pass {k = k} {v = v} e t h) = rw (e, t) (way-run (set ws (c .n) v) (putField bs (bits k) v (c .bit)) h)
 
-module _ {A : Type 0} (src : Source) (p : Grammar A) (c : Cursor) (ws bs : List ℕ) where
+module _ {A : Type 0} (src : Source) (p : Grammar A) (c : Walker) (ws bs : List ℕ) where
   pub run-sunk : run src p (state c ws bs) ≡ sunk (outcome src p c) (sets ws (c .n) (trace src p c)) (puts bs (c .bit) (trace src p c))
   run-sunk = way-run ws bs (way-to refl)
 
-  pub run-ok : {a : A} {d : Cursor} → outcome src p c ≡ ok a d
+  pub run-ok : {a : A} {d : Walker} → outcome src p c ≡ ok a d
       → run src p (state c ws bs) ≡ Result.ok a (state d (sets ws (c .n) (trace src p c)) (puts bs (c .bit) (trace src p c)))
   run-ok e = way-run ws bs (way-to e)
 

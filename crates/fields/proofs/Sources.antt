@@ -1,4 +1,4 @@
--- The cases of a field at a cursor.
+-- The cases of a field at a walker.
 use Prim.Native.Nat.{ℕ, _^_, _<_, _≤_}
 use mathlib.Core.Path.{_≡_, refl, sym, _∙_, ap}
 use mathlib.Core.List.{List}
@@ -7,8 +7,8 @@ use borrow.Author.Tests.{lt-ltb, le-ltb, le-leb, lt-leb, ltb-true, leb-true}
 use lib.ListN.{length, getD}
 use lib.Dec.{ltb, leb}
 use Rattle.bits.specs.Bits.{readField}
-use Rattle.bits.specs.declared.Field.{Field as Bits}
-use Rattle.fields.specs.declared.Cursor.{Cursor}
+use Rattle.bits.specs.declared.Taken.{Taken as Bits}
+use Rattle.fields.specs.declared.Walker.{Walker}
 use Rattle.fields.specs.declared.Field.{Field}
 use Rattle.fields.specs.declared.Field.the-variants.{Got, Bad}
 use Rattle.fields.specs.Source.{listedField, ofBits, packedField, inReach, fieldAt}
@@ -30,7 +30,7 @@ module _ (l : List ℕ) (w n : ℕ) where
 
 -- ---- within reach, or not
 
-module _ (s l : List ℕ) (w : ℕ) (c : Cursor) where
+module _ (s l : List ℕ) (w : ℕ) (c : Walker) where
   pub field-wide : 16 < w → fieldAt s l w c ≡ Bad 3
   unfolding fieldAt inReach
   field-wide h = rw (lt-leb w 16 h)
@@ -66,12 +66,12 @@ bad-or : (b : Bool) (f : Field) (v : ℕ) → cond b f (Bad 3) ≡ Got v → b �
 bad-or true f v p = refl
 bad-or false f v p = cc
 
-pub record Near (w : ℕ) (c : Cursor) : Type 0 where
+pub record Near (w : ℕ) (c : Walker) : Type 0 where
   pub narrow : w ≤ 16
   pub few : c .n < 2 ^ 32
   pub close : c .bit < 2 ^ 32
 
-pub got-near : (s l : List ℕ) (w : ℕ) (c : Cursor) (v : ℕ) → fieldAt s l w c ≡ Got v → Near w c
+pub got-near : (s l : List ℕ) (w : ℕ) (c : Walker) (v : ℕ) → fieldAt s l w c ≡ Got v → Near w c
 unfolding fieldAt inReach
 got-near s l w c v p =
     let q = bad-or _ _ v p in

@@ -5,11 +5,11 @@ use native.Mathlib.Omega.{arith}
 use lib.ListN.{length}
 use Rattle.bits.specs.Packed.{width, Sized}
 use Rattle.bits.specs.Written.{Narrow}
-use Rattle.fields.specs.Kinds.{Kind, symbol-count, arity, rule-count, call-count, tag, variable, symbol, power-symbol, power-a, power-b, line-count, line-kind, right-bit, rule, stop-number, use-bit, used-line, index-i, index-j, filling-count, filled-variable, named-line, step-k, start-α, bits}
+use Rattle.fields.specs.Kinds.{FieldKind, symbol-count, arity, rule-count, call-count, tag, variable, symbol, power-symbol, power-a, power-b, line-count, line-kind, right-bit, rule, stop-number, use-bit, used-line, index-i, index-j, filling-count, filled-variable, named-line, step-k, start-α, bits}
 use Rattle.fields.specs.Grammar.{Grammar, done, ask}
 use Rattle.fields.specs.Spells.{Spells}
 
-pub bits-few : (k : Kind) → (0 < bits k) × (bits k ≤ 16)
+pub bits-few : (k : FieldKind) → (0 < bits k) × (bits k ≤ 16)
 bits-few symbol-count = (omega arith, omega arith)
 bits-few arity = (omega arith, omega arith)
 bits-few rule-count = (omega arith, omega arith)

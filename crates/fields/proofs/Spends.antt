@@ -4,14 +4,14 @@ use mathlib.Core.List.{List}
 use mathlib.Core.Bool.{Bool, true, false, cond}
 use native.Mathlib.Omega.{arith}
 use Rattle.bits.specs.Packed.{width}
-use Rattle.fields.specs.Kinds.{Kind, bits, Range}
+use Rattle.fields.specs.Kinds.{FieldKind, bits, Range}
 use Rattle.fields.specs.Grammar.{Grammar, done, ask, bind, field}
 use Rattle.fields.specs.Faults.{Keeps, Led, here, past}
 
 -- n bits are enough for all fields that keep their rules, and a tree `a` leaves `rest a` of them at least
 pub data Spends {A : Type 0} (rest : A → ℕ) : ℕ → Grammar A → Type 0 where
   over : (n : ℕ) (a : A) → rest a ≤ n → Spends rest n (done a)
-  pays : {n : ℕ} {k : Kind} {r : Range} {next : ℕ → Grammar A} → ((v : ℕ) → Keeps k r v → bits k ≤ n)
+  pays : {n : ℕ} {k : FieldKind} {r : Range} {next : ℕ → Grammar A} → ((v : ℕ) → Keeps k r v → bits k ≤ n)
       → ((v : ℕ) → Keeps k r v → Spends rest (n - bits k) (next v)) → Spends rest n (ask k r next)
 
 module _ {A : Type 0} {rest : A → ℕ} where
@@ -41,7 +41,7 @@ module _ {A B : Type 0} {rest : A → ℕ} {last : B → ℕ} where
   spends-bind p f (pays {next = next} h x) g = pays h (λ v q. spends-bind (next v) f (x v q) g)
 
 -- a field first
-pub spends-field : {B : Type 0} {last : B → ℕ} (k : Kind) (r : Range) (f : ℕ → Grammar B) (n m : ℕ)
+pub spends-field : {B : Type 0} {last : B → ℕ} (k : FieldKind) (r : Range) (f : ℕ → Grammar B) (n m : ℕ)
     → ((v : ℕ) → Keeps k r v → bits k + m ≤ n) → ((v : ℕ) → Keeps k r v → Spends last m (f v)) → Spends last n (bind (field k r) f)
 unfolding bind field
 spends-field k r f n m l g =

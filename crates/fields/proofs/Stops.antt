@@ -4,13 +4,13 @@ use mathlib.Core.Path.{_≡_, refl, sym, _∙_}
 use mathlib.Core.Bool.{Bool, true, false}
 use mathlib.Core.Option.{Option, some}
 use native.Mathlib.Omega.{arith}
-use Rattle.fields.specs.declared.Cursor.{Cursor}
+use Rattle.fields.specs.declared.Walker.{Walker}
 use Rattle.fields.specs.declared.Field.the-variants.{Got, Bad}
 use Rattle.fields.specs.Source.{Source}
-use Rattle.fields.specs.Kinds.{Kind, bits, Range, InRange, Unnormal, Spent, test, spent}
+use Rattle.fields.specs.Kinds.{FieldKind, bits, Range, InRange, Unnormal, Spent, test, spent}
 use Rattle.fields.specs.Grammar.{Grammar, ask, Outcome, outcome}
-use Rattle.fields.proofs.Ranges.{Met, met, spent-exactly, look-open, look-spent}
-use Rattle.fields.proofs.Ranges.Met.{good, outside, unnormal, too-many}
+use Rattle.fields.proofs.Ranges.{Tested, met, spent-exactly, look-open, look-spent}
+use Rattle.fields.proofs.Ranges.Tested.{good, outside, unnormal, too-many}
 use Rattle.fields.proofs.Leads.{Why, unread, untaken}
 
 pub spent? : (r : Range) → Dec (Spent r)
@@ -27,13 +27,13 @@ allowed r h = go (spent r) refl
     go true e = absurd (h (spent-exactly r .0 e))
     go false e = refl
 
-pub why : {R : Type 0} (src : Source) (k : Kind) (r : Range) (d : Cursor) (m : ℕ) → Why src k r d m → (Spent r → m ≡ 6 → R)
+pub why : {R : Type 0} (src : Source) (k : FieldKind) (r : Range) (d : Walker) (m : ℕ) → Why src k r d m → (Spent r → m ≡ 6 → R)
     → (¬ (Spent r) → src (bits k) d ≡ Bad m → R)
     → (¬ (Spent r) → (v : ℕ) → src (bits k) d ≡ Got v → ¬ (InRange r v) → m ≡ 4 → R)
     → (¬ (Spent r) → (v : ℕ) → src (bits k) d ≡ Got v → InRange r v → Unnormal r v → m ≡ 5 → R) → R
 why {R} src k r d m w full unreadable wide abnormal = go (spent? r) w
   where
-    untested : ¬ (Spent r) → (v : ℕ) → src (bits k) d ≡ Got v → (o : Option ℕ) → Met r v o → o ≡ some m → R
+    untested : ¬ (Spent r) → (v : ℕ) → src (bits k) d ≡ Got v → (o : Option ℕ) → Tested r v o → o ≡ some m → R
     untested h v e o (good s i u) q = let z : _≡_ {A = ℕ} 0 1 = cc in absurd (omega arith)
     untested h v e o (outside s i) q = wide h v e i (cc)
     untested h v e o (unnormal s i u) q = abnormal h v e i u (cc)
@@ -48,7 +48,7 @@ why {R} src k r d m w full unreadable wide abnormal = go (spent? r) w
 
 -- and back
 
-module _ {A : Type 0} (src : Source) (k : Kind) (r : Range) (next : ℕ → Grammar A) (d : Cursor) where
+module _ {A : Type 0} (src : Source) (k : FieldKind) (r : Range) (next : ℕ → Grammar A) (d : Walker) where
   pub stops-spent : Spent r → outcome src (ask k r next) d ≡ Outcome.no 6 d
   unfolding outcome
   stops-spent h = rw (look-spent src k r d (spent-exactly r .1 h))

@@ -9,20 +9,20 @@ use lib.ListN.{getD}
 use lib.Dec.{eqb, leb, ltb}
 
 -- 01, "Packed layout": every field of a rule book or a certificate is of one of these kinds
-pub data Kind : Type 0 where
+pub data FieldKind : Type 0 where
   -- a rule book
-  symbol-count arity rule-count call-count : Kind
+  symbol-count arity rule-count call-count : FieldKind
   -- a term
-  tag variable symbol power-symbol power-a power-b : Kind
+  tag variable symbol power-symbol power-a power-b : FieldKind
   -- a certificate and its lines
-  line-count line-kind right-bit rule stop-number use-bit : Kind
+  line-count line-kind right-bit rule stop-number use-bit : FieldKind
   -- a use and a filling
-  used-line index-i index-j filling-count filled-variable : Kind
+  used-line index-i index-j filling-count filled-variable : FieldKind
   -- the closing
-  named-line step-k start-α : Kind
+  named-line step-k start-α : FieldKind
 
 -- how many bits a field has
-abbrev pub bits : Kind → ℕ
+abbrev pub bits : FieldKind → ℕ
 bits symbol-count = 8
 bits arity = 4
 bits rule-count = 8
@@ -98,18 +98,18 @@ Spent (node least left) = left ≡ 0
 -- ---- the same, as the code tests it
 
 -- a value from `least` on and below `end`; any other is refused with m
-unfoldable pub within : ℕ → ℕ → ℕ → ℕ → Option ℕ
-within least end m v = cond (ltb v least) (some m) (cond (ltb v end) none (some m))
+unfoldable pub between : ℕ → ℕ → ℕ → ℕ → Option ℕ
+between least end m v = cond (ltb v least) (some m) (cond (ltb v end) none (some m))
 
 -- the number with which a value is refused, if it is
 abbrev pub test : Range → ℕ → Option ℕ
 test any v = none
-test (from-to least end) v = within least end 4 v
+test (from-to least end) v = between least end 4 v
 test (applied ar) v = cond (eqb (ar v) 1) (some 4) (cond (leb (ar v) 8) none (some 4))
 test (unary ar above) v = cond (eqb (ar v) 1) (cond (eqb v above) (some 5) none) (some 4)
 test (beside a) v = cond (eqb a 0) (cond (eqb v 0) (some 5) none) none
 test (one-call ms) v = cond (eqb (getD ms v 0) 1) none (some 4)
-test (node least left) v = cond (eqb left 0) (some 6) (within least 3 4 v)
+test (node least left) v = cond (eqb left 0) (some 6) (between least 3 4 v)
 
 -- no node is allowed any more
 abbrev pub spent : Range → Bool
@@ -122,7 +122,7 @@ spent (one-call ms) = false
 spent (node least left) = eqb left 0
 
 -- A field of w bits whose range is told by two bounds, and by one number for what lies outside: what the code's `take` is handed.
-pub record Bounded (k : Kind) (r : Range) (w least end m : ℕ) : Type 0 where
+pub record Bounded (k : FieldKind) (r : Range) (w least end m : ℕ) : Type 0 where
   pub allowed : spent r ≡ false
   pub wide : bits k ≡ w
-  pub told : (v : ℕ) → v < 2 ^ w → test r v ≡ within least end m v
+  pub told : (v : ℕ) → v < 2 ^ w → test r v ≡ between least end m v

@@ -5,9 +5,9 @@ use mathlib.Core.Bool.{Bool, _&&_, cond}
 use lib.ListN.{length, getD}
 use lib.Dec.{ltb, leb}
 use Rattle.bits.specs.Bits.{readField}
-use Rattle.bits.specs.declared.Field.{Field as Bits}
-use Rattle.bits.specs.declared.Field.the-variants.{Got as gotBits, Past as noBits}
-use Rattle.fields.specs.declared.Cursor.{Cursor}
+use Rattle.bits.specs.declared.Taken.{Taken as Bits}
+use Rattle.bits.specs.declared.Taken.the-variants.{Got as gotBits, Past as noBits}
+use Rattle.fields.specs.declared.Walker.{Walker}
 use Rattle.fields.specs.declared.Field.{Field}
 use Rattle.fields.specs.declared.Field.the-variants.{Got, Bad}
 
@@ -23,24 +23,24 @@ unfoldable pub packedField : List ℕ → ℕ → ℕ → Field
 packedField s w at = ofBits (readField s w at)
 
 -- no field has more than 16 bits, and none begins past the first 2 ^ 32 fields or bits: no grammar of 01 gets there
-unfoldable pub inReach : ℕ → Cursor → Bool
+unfoldable pub inReach : ℕ → Walker → Bool
 inReach w c = leb w 16 && ltb (c .n) (2 ^ 32) && ltb (c .bit) (2 ^ 32)
 
--- the field of w bits at a cursor
-unfoldable pub fieldAt : List ℕ → List ℕ → ℕ → Cursor → Field
+-- the field of w bits at a walker
+unfoldable pub fieldAt : List ℕ → List ℕ → ℕ → Walker → Field
 fieldAt s l w c = cond (inReach w c) (cond (c .listed) (listedField l w (c .n)) (packedField s w (c .bit))) (Bad 3)
 
--- a source hands out the field of a width at a cursor
+-- a source hands out the field of a width at a walker
 abbrev pub Source : Type 0
-Source = ℕ → Cursor → Field
+Source = ℕ → Walker → Field
 
-abbrev pub from : List ℕ → List ℕ → Source
-from s l w c = fieldAt s l w c
+abbrev pub source : List ℕ → List ℕ → Source
+source s l w c = fieldAt s l w c
 
--- the cursor past a field of w bits
-abbrev pub onward : ℕ → Cursor → Cursor
-onward w c = record { bit = c .bit + w; n = c .n + 1; listed = c .listed }
+-- the walker past a field of w bits
+abbrev pub moved : ℕ → Walker → Walker
+moved w c = record { bit = c .bit + w; n = c .n + 1; listed = c .listed }
 
--- the cursor at a file's first field
-abbrev pub start : Bool → Cursor
+-- the walker at a file's first field
+abbrev pub start : Bool → Walker
 start listed = record { bit = 0; n = 0; listed = listed }

@@ -1,29 +1,29 @@
-// A cursor over fields, packed in bytes or listed as numbers, that puts each field it passes into two outputs.
+// A walker over fields, packed in bytes or listed as numbers, that puts each field it passes into two outputs.
 ghost use mathlib.Core.Path.{_≡_};
 ghost use Prim.Native.Nat.{_<_, _≤_, _^_};
 ghost use lib.ListN.{set};
 ghost use Rattle.bits.specs.Put.{putField};
-ghost use Rattle.fields.specs.Source.{listedField, fieldAt, from, onward, start};
+ghost use Rattle.fields.specs.Source.{listedField, fieldAt, source, moved, start};
 ghost use Rattle.fields.specs.Run.{Took};
 
 // How far a walk has come: the bits and the fields passed. The next field stands at bit `bit` of the bytes or, if the
 // source is a list, at place `n` of the list.
-pub struct Cursor {
+pub struct Walker {
     pub bit: usize,
     pub n: usize,
     pub listed: bool,
 }
 
-// What stands at a cursor: a field's value, or the number of its refusal.
+// What stands at a walker: a field's value, or the number of its refusal.
 pub enum Field {
     Got(u16),
     Bad(u16),
 }
 
-// What a walk comes to: a value and the cursor past it, or the number of a refusal and the cursor where it is given.
+// What a walk comes to: a value and the walker past it, or the number of a refusal and the walker where it is given.
 pub enum Walk {
-    On(usize, Cursor),
-    No(u16, Cursor),
+    On(usize, Walker),
+    No(u16, Walker),
 }
 
 fn wide(v: u16) -> u64
@@ -56,12 +56,12 @@ fn put_word(words: &mut [u16], n: usize, v: u16)
     }
 }
 
-impl Cursor {
+impl Walker {
     // At a file's first field.
-    pub fn first(listed: bool) -> Cursor
+    pub fn first(listed: bool) -> Walker
         ensures { λ r. ⌜ r ≡ start listed ⌝ }
     {
-        Cursor {
+        Walker {
             bit: 0,
             n: 0,
             listed,
@@ -88,15 +88,15 @@ impl Cursor {
         }
         let b = bits::Cursor { at };
         match b.take(w, s) {
-            bits::Field::Past => Field::Bad(3),
-            bits::Field::Got(v, _) => Field::Got(v),
+            bits::Taken::Past => Field::Bad(3),
+            bits::Taken::Got(v, _) => Field::Got(v),
         }
     }
 
-    // The cursor past a field of w bits with the value v, which is put into both outputs.
-    pub fn pass(self, w: usize, v: u16, words: &mut [u16], bytes: &mut [u8]) -> Cursor
+    // The walker past a field of w bits with the value v, which is put into both outputs.
+    pub fn pass(self, w: usize, v: u16, words: &mut [u16], bytes: &mut [u8]) -> Walker
         requires { ⌜ (w ≤ 16) × (self .n < 2 ^ 32) × (self .bit < 2 ^ 32) ⌝ }
-        ensures moved { λ r. ⌜ r ≡ onward w self ⌝ }
+        ensures moved { λ r. ⌜ r ≡ moved w self ⌝ }
         ensures listed { λ r. ⌜ now (words .exit) ≡ set (now (words .entry)) (self .n) v ⌝ }
         ensures packed { λ r. ⌜ now (bytes .exit) ≡ putField (now (bytes .entry)) w v (self .bit) ⌝ }
     {
@@ -105,7 +105,7 @@ impl Cursor {
         put_word(words, n, v);
         let b = bits::Cursor { at };
         let _past = b.put(w, v, bytes);
-        Cursor {
+        Walker {
             bit: at + w,
             n: n + 1,
             listed: self.listed,
@@ -124,7 +124,7 @@ impl Cursor {
         words: &mut [u16],
         bytes: &mut [u8],
     ) -> Walk
-        ensures { λ r. ⌜ Took (from (now (s .entry)) (now (l .entry))) w least end number self (now (words .entry)) (now (bytes .entry)) r (now (words .exit)) (now (bytes .exit)) ⌝ }
+        ensures { λ r. ⌜ Took (source (now (s .entry)) (now (l .entry))) w least end number self (now (words .entry)) (now (bytes .entry)) r (now (words .exit)) (now (bytes .exit)) ⌝ }
     {
         match self.look(w, s, l) {
             Field::Bad(m) => Walk::No(m, self),

@@ -2,8 +2,8 @@
 use Prim.Native.Nat.{ℕ, zero, suc, _-_}
 use mathlib.Core.List.{List}
 use lib.Dec.{eqb}
-use Rattle.fields.specs.Kinds.{Kind, Range, any, from-to, node}
-use Rattle.fields.specs.Kinds.{Kind as kind}
+use Rattle.fields.specs.Kinds.{FieldKind, Range, any, from-to, node}
+use Rattle.fields.specs.Kinds.{FieldKind as kind}
 use Rattle.fields.specs.Grammar.{Grammar, done, bind, field}
 use Rattle.fields.specs.Asks.{Asks}
 use Rattle.fields.proofs.Asking.{asks-bind, asks-cond, asks-field, asks-one, asks-two}
@@ -25,7 +25,7 @@ two = asks-two Stated
 one : {A B : Type 0} (p : Grammar A) (mk : A → B) → AsStated p → AsStated (bind p λ a. done (mk a))
 one = asks-one Stated
 
-its : {k : Kind} {r : Range} → Stated k r → AsStated (field k r)
+its : {k : FieldKind} {r : Range} → Stated k r → AsStated (field k r)
 its {k} {r} s = asks-field Stated k r s
 
 -- ---- terms and fillings

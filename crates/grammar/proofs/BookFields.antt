@@ -7,7 +7,7 @@ use native.Mathlib.Omega.{arith}
 use lib.ListN.{length, length-map}
 use Rattle.patterns.specs.Every.{Every}
 use Rattle.patterns.proofs.Every.{every-map, every-weaken}
-use Rattle.fields.specs.Kinds.{Kind as kind}
+use Rattle.fields.specs.Kinds.{FieldKind as kind}
 use Rattle.fields.specs.Grammar.{done, bind}
 use Rattle.fields.specs.Spells.{Spells}
 use Rattle.grammar.specs.Terms.{root-term}

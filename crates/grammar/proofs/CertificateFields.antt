@@ -8,7 +8,7 @@ use lib.ListN.{length}
 use Rattle.patterns.specs.Every.{Every}
 use Rattle.patterns.specs.First.{Exp, Pair, Pace}
 use Rattle.patterns.specs.Certificate.{Certificate}
-use Rattle.fields.specs.Kinds.{Kind as kind}
+use Rattle.fields.specs.Kinds.{FieldKind as kind}
 use Rattle.fields.specs.Spells.{Spells}
 use Rattle.grammar.specs.Books.{RuleBook, arity-in}
 use Rattle.grammar.specs.Certificates.{lines-of, a-pace, a-closed, a-closing, a-certificate-of, a-certificate}

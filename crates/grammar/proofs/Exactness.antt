@@ -4,8 +4,8 @@ use mathlib.Core.Logic.{_↔_}
 use mathlib.Core.Path.{_≡_, refl, sym, _∙_, ap, ap₂, subst}
 use mathlib.Core.List.{List, [], _∷_, _++_, flatMap}
 use mathlib.Core.Option.{Option, none, some}
-use Rattle.fields.specs.Kinds.{Kind, bits, Range, any, from-to, InRange, test}
-use Rattle.fields.proofs.Ranges.{passes-exactly, within-ok}
+use Rattle.fields.specs.Kinds.{FieldKind, bits, Range, any, from-to, InRange, test}
+use Rattle.fields.proofs.Ranges.{passes-exactly, between-ok}
 use mathlib.Core.Bool.{cond}
 use native.Mathlib.Omega.{arith}
 use lib.ListN.{length}
@@ -58,22 +58,22 @@ done-exactly {R} {h} r e only = record {
 
 -- ---- fields
 
-pub field-exactly : (k : Kind) (r : Range) → Exactly (field k r) (λ v. (v < 2 ^ bits k) × (test r v ≡ none)) (λ v. (bits k, v) ∷ [])
+pub field-exactly : (k : FieldKind) (r : Range) → Exactly (field k r) (λ v. (v < 2 ^ bits k) × (test r v ≡ none)) (λ v. (bits k, v) ∷ [])
 unfolding field
 field-exactly k r = record {
   forth = λ v fs s. let x = ask-forth k r v fs s in ((x .1, x .2), x .0);
   back = λ v h. ask-back k r v (h .0) (h .1);
 }
 
-pub any-exactly : (k : Kind) → Exactly (field k any) (λ v. v < 2 ^ bits k) (λ v. (bits k, v) ∷ [])
+pub any-exactly : (k : FieldKind) → Exactly (field k any) (λ v. v < 2 ^ bits k) (λ v. (bits k, v) ∷ [])
 any-exactly k = refit (field-exactly k any) (λ v h. h .0) (λ v h. (h, refl))
 
-pub from-to-exactly : (k : Kind) (least end : ℕ) → end ≤ 2 ^ bits k
+pub from-to-exactly : (k : FieldKind) (least end : ℕ) → end ≤ 2 ^ bits k
     → Exactly (field k (from-to least end)) (λ v. (least ≤ v) × (v < end)) (λ v. (bits k, v) ∷ [])
 unfolding InRange
 from-to-exactly k least end h =
     refit (field-exactly k (from-to least end)) (λ v x. passes-exactly (from-to least end) v .0 (x .1) .1)
-    (λ v x. let l = x .1 in (omega arith, within-ok least end 4 v (x .0) l))
+    (λ v x. let l = x .1 in (omega arith, between-ok least end 4 v (x .0) l))
 
 -- ---- one after the other
 
@@ -185,7 +185,7 @@ behind-bit : {A : Type 0} → (A → Fields) → Option A → Fields
 behind-bit f none = []
 behind-bit f (some a) = f a
 
-pub maybe-exactly : (k : Kind) → bits k ≡ 1 → {A : Type 0} {p : Grammar A} {P : A → Type 0} {f : A → Fields} (R : Option A → Type 0) → R none
+pub maybe-exactly : (k : FieldKind) → bits k ≡ 1 → {A : Type 0} {p : Grammar A} {P : A → Type 0} {f : A → Fields} (R : Option A → Type 0) → R none
     → ((a : A) → P a → R (some a))
     → ((a : A) → R (some a) → P a)
     → Exactly p P f

@@ -5,7 +5,7 @@ use mathlib.Core.List.{List, flatMap}
 use native.Mathlib.Omega.{arith}
 use lib.ListN.{length}
 use Rattle.fields.specs.Kinds.{from-to}
-use Rattle.fields.specs.Kinds.{Kind as kind}
+use Rattle.fields.specs.Kinds.{FieldKind as kind}
 use Rattle.fields.specs.Grammar.{done, bind, field}
 use Rattle.grammar.specs.Terms.{any-term, a-pair, pairs-of, a-filling}
 use Rattle.grammar.specs.Books.{arity-in}

@@ -60,8 +60,8 @@ module _ (arities : List ℕ) (end : ℕ) where
     pub count : arguments (g .terms) ≡ n
 
   -- a node of the tag n, and what stands below it
-  unfoldable pub Node : ℕ → ℕ → ℕ → Grown → Type 0
-  Node n above left g = (tag (g .term) ≡ n) × Grows above (suc left) g
+  unfoldable pub GrownNode : ℕ → ℕ → ℕ → Grown → Type 0
+  GrownNode n above left g = (tag (g .term) ≡ n) × Grows above (suc left) g
 
 abbrev pub grown : Pattern → ℕ → Grown
 grown t left = record { term = t; left = left }

@@ -7,9 +7,9 @@ use native.Mathlib.Omega.{arith}
 use lib.ListN.{length, getD, getElem?}
 use Rattle.patterns.specs.Every.{Every}
 use Rattle.patterns.specs.First.{Exp, Pair}
-use Rattle.patterns.specs.Certificate.{Fills, Use, Stop, Kind, unfolds, descends}
+use Rattle.patterns.specs.Certificate.{Fills, Use, Stop, LineKind, unfolds, descends}
 use Rattle.fields.specs.Kinds.{one-call, InRange, Unnormal, Spent}
-use Rattle.fields.specs.Kinds.{Kind as kind}
+use Rattle.fields.specs.Kinds.{FieldKind as kind}
 use Rattle.fields.proofs.Ranges.{passes-exactly}
 use Rattle.grammar.specs.Books.{arity-in}
 use Rattle.grammar.specs.Certificates.{an-unfold, a-fall, a-descent, a-kind, a-line-of, a-line}
@@ -69,7 +69,7 @@ module _ (arities : List ℕ) (sig : Signature arities) where
           (λ k q h l. ((refl, (getD ms k 0, listed-number ms k (h .1), l .0, l .1)), refl))
           onto
         where
-          onto : (q : Kind Exp Pair) → (kind-number q ≡ 0) × KindFits arities ms line q
+          onto : (q : LineKind Exp Pair) → (kind-number q ≡ 0) × KindFits arities ms line q
               → (k : ℕ) × (r : Fills Exp × Stop Exp Pair) × ((0 ≤ k) × (k < length ms))
               × (FillsFit arities (r .0) × StopFits arities line (getD ms k 0) (r .1)) × (unfolds k (r .0) (r .1) ≡ q)
           onto (unfolds k θ s) h =
@@ -87,7 +87,7 @@ module _ (arities : List ℕ) (sig : Signature arities) where
           (λ u q h l. ((refl, (h, l .0, l .1)), refl))
           onto
         where
-          onto : (q : Kind Exp Pair) → (kind-number q ≡ 1) × KindFits arities ms line q
+          onto : (q : LineKind Exp Pair) → (kind-number q ≡ 1) × KindFits arities ms line q
               → (u : Use Exp Pair) × (r : ℕ × Fills Exp) × UseFits arities line u
               × ((getElem? ms (r .0) ≡ some 1) × FillsFit arities (r .1)) × (descends u (r .0) (r .1) ≡ q)
           onto (unfolds k θ s) h = absurd (omega arith)
@@ -121,6 +121,6 @@ module _ (arities : List ℕ) (sig : Signature arities) where
           (λ l h. h .1)
           (λ l h. (kind-below (l .kind), h))
         where
-          kind-below : (q : Kind Exp Pair) → kind-number q < 2
+          kind-below : (q : LineKind Exp Pair) → kind-number q < 2
           kind-below (unfolds k θ s) = omega arith
           kind-below (descends u k θ) = omega arith

@@ -3,7 +3,7 @@ use Prim.Native.Nat.{ℕ, _<_, _^_}
 use mathlib.Core.Path.{_≡_, refl, sym, _∙_, ap, subst, subst₂}
 use mathlib.Core.List.{[], _∷_, _++_}
 use mathlib.Core.Option.{none}
-use Rattle.fields.specs.Kinds.{Kind, bits, Range, test}
+use Rattle.fields.specs.Kinds.{FieldKind, bits, Range, test}
 use Rattle.fields.specs.Grammar.{Grammar, done, ask, bind}
 use Rattle.fields.specs.Spells.{Spells}
 use Rattle.grammar.specs.Listing.{Fields}
@@ -45,7 +45,7 @@ spells-split (ask k r next) f b (v ∷ fs) h =
 
 -- ---- a field
 
-pub ask-forth : (k : Kind) (r : Range) (v : ℕ) (fs : Fields) → Spells (ask k r done) v fs
+pub ask-forth : (k : FieldKind) (r : Range) (v : ℕ) (fs : Fields) → Spells (ask k r done) v fs
     → (fs ≡ (bits k, v) ∷ []) × (v < 2 ^ bits k) × (test r v ≡ none)
 unfolding Spells
 ask-forth k r v [] h = absurd h
@@ -56,7 +56,7 @@ ask-forth k r v (f ∷ fs) h =
       subst (λ u. test r u ≡ none) (sym (h .3 .0)) (h .2),
     )
 
-pub ask-back : (k : Kind) (r : Range) (v : ℕ) → v < 2 ^ bits k → test r v ≡ none → Spells (ask k r done) v ((bits k, v) ∷ [])
+pub ask-back : (k : FieldKind) (r : Range) (v : ℕ) → v < 2 ^ bits k → test r v ≡ none → Spells (ask k r done) v ((bits k, v) ∷ [])
 unfolding Spells
 ask-back k r v h t = (refl, h, t, (refl, refl))
 

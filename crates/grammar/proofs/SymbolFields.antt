@@ -8,7 +8,7 @@ use lib.ListN.{length}
 use Rattle.patterns.specs.Every.{Every}
 use Rattle.patterns.specs.First.{Exp, ex}
 use Rattle.fields.specs.Kinds.{applied, unary, beside, InRange, Unnormal, Spent}
-use Rattle.fields.specs.Kinds.{Kind as kind}
+use Rattle.fields.specs.Kinds.{FieldKind as kind}
 use Rattle.fields.proofs.Ranges.{passes-exactly}
 use Rattle.grammar.specs.Terms.{a-symbol, a-unary, an-exponent, a-raise}
 use Rattle.grammar.specs.Books.{arity-in}

@@ -11,7 +11,7 @@ use Rattle.patterns.specs.Normal.{Over, Normal}
 use Rattle.patterns.specs.Formed.{arguments, Formed}
 use Rattle.patterns.specs.First.{Exp, Pattern, exponents}
 use Rattle.fields.specs.Kinds.{node, InRange, Unnormal, Spent}
-use Rattle.fields.specs.Kinds.{Kind as kind}
+use Rattle.fields.specs.Kinds.{FieldKind as kind}
 use Rattle.fields.proofs.Ranges.{passes-exactly}
 use Rattle.fields.specs.Grammar.{Grammar, bind, field}
 use Rattle.fields.specs.Spells.{Spells}
@@ -21,11 +21,11 @@ use Rattle.grammar.specs.Limits.{Ranged, TermFits, RootFits}
 use Rattle.grammar.specs.Listing.{Fields, term-fields, terms-fields}
 use Rattle.grammar.proofs.Exactness.{Exactly, refit, field-exactly, any-exactly as bits-exactly, done-exactly, made, after, both}
 use Rattle.grammar.proofs.SymbolFields.{Signature, Raises, symbol-exactly, raise-exactly}
-use Rattle.grammar.proofs.Growing.{size-positive, tag, behind-tag, tag-before, tag-below, Grows, GrowsAll, Node, grown, grown-all, grown-fields, all-fields, below-tag, free-of-256, pattern-of, rooted-forth, rooted-back, grown-fits, fits-grown}
+use Rattle.grammar.proofs.Growing.{size-positive, tag, behind-tag, tag-before, tag-below, Grows, GrowsAll, GrownNode, grown, grown-all, grown-fields, all-fields, below-tag, free-of-256, pattern-of, rooted-forth, rooted-back, grown-fits, fits-grown}
 
 module _ (arities : List ℕ) (sig : Signature arities) (end : ℕ) (low : end ≤ 4096) where
-  pub variable-exactly : (above left : ℕ) → Exactly (a-variable left) (Node arities end 0 above left) below-tag
-  unfolding a-variable Node below-tag behind-tag tag size Normal Over Formed Ranged
+  pub variable-exactly : (above left : ℕ) → Exactly (a-variable left) (GrownNode arities end 0 above left) below-tag
+  unfolding a-variable GrownNode below-tag behind-tag tag size Normal Over Formed Ranged
   variable-exactly above left =
       made
       (bits-exactly kind.variable)
@@ -93,8 +93,8 @@ module _ (arities : List ℕ) (sig : Signature arities) (end : ℕ) (low : end �
             )
 
     pub applied-exactly : (above left : ℕ) → left ≤ deep
-        → Exactly (an-applied term (arity-in arities) left) (Node arities end 1 above left) below-tag
-    unfolding an-applied Node below-tag behind-tag tag size Normal Over Formed Ranged
+        → Exactly (an-applied term (arity-in arities) left) (GrownNode arities end 1 above left) below-tag
+    unfolding an-applied GrownNode below-tag behind-tag tag size Normal Over Formed Ranged
     applied-exactly above left h =
         both
         (symbol-exactly arities sig)
@@ -130,8 +130,8 @@ module _ (arities : List ℕ) (sig : Signature arities) (end : ℕ) (low : end �
         onto (pow s d t) k e g = absurd (omega arith)
 
     pub raised-exactly : (above left : ℕ) → left ≤ deep
-        → Exactly (a-raised term (arity-in arities) end above left) (Node arities end 2 above left) below-tag
-    unfolding a-raised Node Raises below-tag behind-tag tag size Normal Over Formed Ranged exponents more alone
+        → Exactly (a-raised term (arity-in arities) end above left) (GrownNode arities end 2 above left) below-tag
+    unfolding a-raised GrownNode Raises below-tag behind-tag tag size Normal Over Formed Ranged exponents more alone
     raised-exactly above left h =
         both
         (raise-exactly arities sig end above low)
@@ -173,7 +173,7 @@ module _ (arities : List ℕ) (sig : Signature arities) (end : ℕ) (low : end �
             )
 
     pub node-exactly : (above left : ℕ) → left ≤ deep → (n : ℕ) → n < 3
-        → Exactly (a-node term (arity-in arities) end above left n) (Node arities end n above left) below-tag
+        → Exactly (a-node term (arity-in arities) end above left n) (GrownNode arities end n above left) below-tag
     unfolding a-node
     node-exactly above left h zero k = variable-exactly above left
     node-exactly above left h (suc zero) k = applied-exactly above left h
@@ -183,7 +183,7 @@ module _ (arities : List ℕ) (sig : Signature arities) (end : ℕ) (low : end �
     -- a node, its tag from `least` on, with nodes left
     pub tagged-exactly : (least above left : ℕ) → left ≤ deep
         → Exactly (bind (field kind.tag (node least (suc left))) (a-node term (arity-in arities) end above left)) (λ g. Grows arities end above (suc left) g × (least ≤ tag (g .term))) grown-fields
-    unfolding Node below-tag InRange Unnormal Spent
+    unfolding GrownNode below-tag InRange Unnormal Spent
     tagged-exactly least above left h =
         after
         (refit

@@ -12,7 +12,7 @@ use Rattle.patterns.specs.First.{Exp, Pair}
 use Rattle.patterns.specs.Certificate.{Use, Stop, fact, call}
 use Rattle.patterns.specs.Checks.{OnMark}
 use Rattle.fields.specs.Kinds.{any}
-use Rattle.fields.specs.Kinds.{Kind as kind}
+use Rattle.fields.specs.Kinds.{FieldKind as kind}
 use Rattle.fields.specs.Grammar.{done, bind, field}
 use Rattle.grammar.specs.Terms.{any-term}
 use Rattle.grammar.specs.Books.{arity-in}

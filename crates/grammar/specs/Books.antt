@@ -5,7 +5,7 @@ use lib.ListN.{getD}
 use Rattle.patterns.specs.First.{Exp, Pattern}
 use Rattle.patterns.specs.Derive.{Rule, Book}
 use Rattle.fields.specs.Kinds.{any, from-to}
-use Rattle.fields.specs.Kinds.{Kind as kind}
+use Rattle.fields.specs.Kinds.{FieldKind as kind}
 use Rattle.fields.specs.Grammar.{Grammar, done, bind, field}
 use Rattle.grammar.specs.Terms.{root-term}
 

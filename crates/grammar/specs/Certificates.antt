@@ -6,9 +6,9 @@ use mathlib.Core.Bool.{cond}
 use lib.ListN.{length, getD}
 use lib.Dec.{eqb}
 use Rattle.patterns.specs.First.{Exp, Pair, Pace}
-use Rattle.patterns.specs.Certificate.{Fills, Mark, Claim, Use, Stop, fact, call, Kind, unfolds, descends, Line, Closing, Certificate}
+use Rattle.patterns.specs.Certificate.{Fills, Mark, Claim, Use, Stop, fact, call, LineKind, unfolds, descends, Line, Closing, Certificate}
 use Rattle.fields.specs.Kinds.{any, from-to, one-call}
-use Rattle.fields.specs.Kinds.{Kind as kind}
+use Rattle.fields.specs.Kinds.{FieldKind as kind}
 use Rattle.fields.specs.Grammar.{Grammar, done, bind, field}
 use Rattle.grammar.specs.Terms.{any-term, a-filling}
 
@@ -57,7 +57,7 @@ a-stopped ar line i = bind (a-filling ar) λ θ. bind (a-stop ar line i) λ s. d
 unfoldable pub a-stop-at : (ℕ → ℕ) → ℕ → ℕ → Grammar (Fills Exp × Stop Exp Pair)
 a-stop-at ar line m = bind (field kind.stop-number (from-to (min m 1) (m + 1))) (a-stopped ar line)
 
-unfoldable pub an-unfold : (ℕ → ℕ) → List ℕ → ℕ → Grammar (Kind Exp Pair)
+unfoldable pub an-unfold : (ℕ → ℕ) → List ℕ → ℕ → Grammar (LineKind Exp Pair)
 an-unfold ar ms line =
     bind (field kind.rule (from-to 0 (length ms))) λ k. bind (a-stop-at ar line (getD ms k 0)) λ q. done (unfolds k (q .0) (q .1))
 
@@ -65,11 +65,11 @@ an-unfold ar ms line =
 unfoldable pub a-fall : (ℕ → ℕ) → List ℕ → Grammar (ℕ × Fills Exp)
 a-fall ar ms = bind (field kind.rule (one-call ms)) λ k. bind (a-filling ar) λ θ. done (k, θ)
 
-unfoldable pub a-descent : (ℕ → ℕ) → List ℕ → ℕ → Grammar (Kind Exp Pair)
+unfoldable pub a-descent : (ℕ → ℕ) → List ℕ → ℕ → Grammar (LineKind Exp Pair)
 a-descent ar ms line = bind (a-use ar line) λ u. bind (a-fall ar ms) λ q. done (descends u (q .0) (q .1))
 
 -- 01: "Line: kind 1 bit (0 unfold, 1 descent); left; [..] right"
-unfoldable pub a-kind : (ℕ → ℕ) → List ℕ → ℕ → ℕ → Grammar (Kind Exp Pair)
+unfoldable pub a-kind : (ℕ → ℕ) → List ℕ → ℕ → ℕ → Grammar (LineKind Exp Pair)
 a-kind ar ms line n = cond (eqb n 0) (an-unfold ar ms line) (a-descent ar ms line)
 
 unfoldable pub a-line-of : (ℕ → ℕ) → List ℕ → ℕ → ℕ → Grammar (Line Exp Pair)

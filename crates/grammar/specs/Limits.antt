@@ -10,7 +10,7 @@ use Rattle.patterns.specs.Formed.{Formed}
 use Rattle.patterns.specs.Every.{Every}
 use Rattle.patterns.specs.Derive.{Rule, Book}
 use Rattle.patterns.specs.First.{Exp, Pattern, Pair, Pace, exponents}
-use Rattle.patterns.specs.Certificate.{Fills, Claim, Use, Stop, fact, call, Kind, unfolds, descends, Line, Closing, Certificate}
+use Rattle.patterns.specs.Certificate.{Fills, Claim, Use, Stop, fact, call, LineKind, unfolds, descends, Line, Closing, Certificate}
 use Rattle.patterns.specs.Checks.{OnMark}
 use Rattle.grammar.specs.Books.{RuleBook, arity-in}
 
@@ -92,7 +92,7 @@ StopFits arities line m (call us last) =
     (length us < m) × Every (UseFits arities line) us × LastFits arities line last
 
 -- `ms` lists how many calls each rule has
-unfoldable pub KindFits : List ℕ → List ℕ → ℕ → Kind Exp Pair → Type 0
+unfoldable pub KindFits : List ℕ → List ℕ → ℕ → LineKind Exp Pair → Type 0
 KindFits arities ms line (unfolds k θ s) =
     (m : ℕ) × (getElem? ms k ≡ some m) × FillsFit arities θ × StopFits arities line m s
 KindFits arities ms line (descends u k θ) = UseFits arities line u × (getElem? ms k ≡ some 1) × FillsFit arities θ

@@ -6,7 +6,7 @@ use lib.ListN.{length}
 use Rattle.patterns.specs.Term.{Terms, var, fun, pow, nil, cons}
 use Rattle.patterns.specs.First.{Exp, Pattern, Pair, Pace}
 use Rattle.patterns.specs.Derive.{Rule}
-use Rattle.patterns.specs.Certificate.{Fills, Claim, Use, Stop, fact, call, Kind, unfolds, descends, Line, Closing, Certificate}
+use Rattle.patterns.specs.Certificate.{Fills, Claim, Use, Stop, fact, call, LineKind, unfolds, descends, Line, Closing, Certificate}
 use Rattle.grammar.specs.Books.{RuleBook}
 
 abbrev pub Fields : Type 0
@@ -68,12 +68,12 @@ stop-fields fact = []
 stop-fields (call us last) = flatMap use-fields us ++ if-any use-fields last
 
 -- 01: "Descent: use, rule 8 (one of exactly one call), filling."
-unfoldable pub kind-fields : Kind Exp Pair → Fields
+unfoldable pub kind-fields : LineKind Exp Pair → Fields
 kind-fields (unfolds k θ s) = (8, k) ∷ (4, stop-number s) ∷ filling-fields θ ++ stop-fields s
 kind-fields (descends u k θ) = use-fields u ++ ((8, k) ∷ filling-fields θ)
 
 -- 01: "kind 1 bit (0 unfold, 1 descent)"
-unfoldable pub kind-number : Kind Exp Pair → ℕ
+unfoldable pub kind-number : LineKind Exp Pair → ℕ
 kind-number (unfolds k θ s) = 0
 kind-number (descends u k θ) = 1
 

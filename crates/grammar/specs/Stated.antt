@@ -2,10 +2,10 @@
 -- `InRange` (4), `Unnormal` (5) and `Spent` (6) in `fields/specs/Kinds`; 3 can be given at every field.
 use Prim.Native.Nat.{ℕ, _+_, _-_, min}
 use mathlib.Core.List.{List}
-use Rattle.fields.specs.Kinds.{Kind, Range, any, from-to, applied, unary, beside, one-call, node}
-use Rattle.fields.specs.Kinds.{Kind as kind}
+use Rattle.fields.specs.Kinds.{FieldKind, Range, any, from-to, applied, unary, beside, one-call, node}
+use Rattle.fields.specs.Kinds.{FieldKind as kind}
 
-pub data Stated : Kind → Range → Type 0 where
+pub data Stated : FieldKind → Range → Type 0 where
   -- "symbol count 8 bits; each arity 4"; "an arity of 0 to 8"
   symbol-count : Stated kind.symbol-count any
   arity : Stated kind.arity (from-to 0 9)

@@ -7,7 +7,7 @@ use Rattle.patterns.specs.Term.{Terms, var, fun, pow, nil, cons}
 use Rattle.patterns.specs.First.{Exp, Pattern}
 use Rattle.patterns.specs.Certificate.{Fills}
 use Rattle.fields.specs.Kinds.{any, from-to, applied, unary, beside, node}
-use Rattle.fields.specs.Kinds.{Kind as kind}
+use Rattle.fields.specs.Kinds.{FieldKind as kind}
 use Rattle.fields.specs.Grammar.{Grammar, done, bind, field}
 
 -- `ar f` is the arity of the symbol f, 16 where there is no such symbol.

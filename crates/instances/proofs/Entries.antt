@@ -11,7 +11,7 @@ use borrow.Author.Tests.{lt-ltb, le-ltb}
 use Rattle.patterns.specs.Term.{Filling}
 use Rattle.patterns.specs.First.{Exp}
 use Rattle.table.specs.Sides.{Kept}
-use Rattle.instances.specs.Fillings.{entry, Fills}
+use Rattle.instances.specs.Fillings.{entry, FillsTold}
 
 -- a variable that no file names has no word
 pub entry-past : (w : List ℕ) (fills x : ℕ) → 64 ≤ x → entry w fills x ≡ 0
@@ -48,5 +48,5 @@ module _ (fills : ℕ) (w v : List ℕ) (same : (k : ℕ) → fills ≤ k → k 
       go (yes h) = rw (same (fills + x) (omega arith) (omega arith))
       go (no h) = rw (le-ltb x 64 (omega arith))
 
-  pub fills-same : {book cert : List ℕ} {θ : Filling Exp} → Fills book cert w fills θ → Fills book cert v fills θ
+  pub fills-same : {book cert : List ℕ} {θ : Filling Exp} → FillsTold book cert w fills θ → FillsTold book cert v fills θ
   fills-same f = record { each = λ x. rw (entry-same x) (f .each x) }

@@ -8,15 +8,15 @@ use lib.Dec.{eqb}
 use borrow.Author.Tests.{eq-eqb, ne-eqb}
 use Rattle.bits.specs.Bits.{readField}
 use Rattle.bits.specs.declared.Cursor.{Cursor}
-use Rattle.bits.specs.declared.Field.{Field}
-use Rattle.bits.specs.declared.Field.the-variants.{Got, Past}
+use Rattle.bits.specs.declared.Taken.{Taken}
+use Rattle.bits.specs.declared.Taken.the-variants.{Got, Past}
 use Rattle.bits.proofs.Fitting.{read-got}
 use Rattle.bits.proofs.Bytes.{bits-lt}
 use Rattle.grammar.specs.Listing.{Fields}
 use Rattle.terms.specs.Arity.{arityAt}
 use Rattle.terms.proofs.Arities.{in-bytes-only}
 use Rattle.instances.specs.Lying.{Lies, arities}
-use Rattle.instances.specs.Headers.{onField, variableAt, symbolAt, powerAt, byTag, headerAt}
+use Rattle.instances.specs.Headers.{on-taken, variableAt, symbolAt, powerAt, byTag, headerAt}
 use Rattle.instances.specs.declared.Header.{Header}
 use Rattle.instances.specs.declared.Header.the-variants.{Variable, Symbol, Power, Missing}
 use Rattle.instances.proofs.Lying.{lies-first, lies-rest}
@@ -25,17 +25,17 @@ use Rattle.instances.proofs.Lying.{lies-first, lies-rest}
 
 module _ (book s : List ℕ) (at : ℕ) where
   pub found-variable : (x : ℕ) (fs : Fields) → Lies s at ((2, 0) ∷ (6, x) ∷ fs) → headerAt book s at ≡ Variable x (record { at = at + 2 + 6 })
-  unfolding headerAt byTag variableAt onField
+  unfolding headerAt byTag variableAt on-taken
   found-variable x fs l = rw (lies-first s at 2 0 _ (omega arith) l, lies-first s (at + 2) 6 x fs (omega arith) (lies-rest s at 2 0 _ l))
 
   pub found-symbol : (f : ℕ) (fs : Fields) → Lies s at ((2, 1) ∷ (8, f) ∷ fs)
       → headerAt book s at ≡ Symbol f (arities book f) (record { at = at + 2 + 8 })
-  unfolding headerAt byTag symbolAt onField
+  unfolding headerAt byTag symbolAt on-taken
   found-symbol f fs l = rw (lies-first s at 2 1 _ (omega arith) l, lies-first s (at + 2) 8 f fs (omega arith) (lies-rest s at 2 1 _ l))
 
   pub found-power : (f a b : ℕ) (fs : Fields) → Lies s at ((2, 2) ∷ (8, f) ∷ (12, a) ∷ (12, b) ∷ fs)
       → headerAt book s at ≡ Power f a b (record { at = at + 2 + 8 + 12 + 12 })
-  unfolding headerAt byTag powerAt onField
+  unfolding headerAt byTag powerAt on-taken
   found-power f a b fs l =
       let l₁ = lies-rest s at 2 2 _ l in
       let l₂ = lies-rest s (at + 2) 8 f _ l₁ in
@@ -49,49 +49,49 @@ module _ (book s : List ℕ) (at : ℕ) where
 
 -- ---- what the functions answer, each read r with what it is and what was found
 
-module _ (s : List ℕ) (at : ℕ) (r : Field) where
+module _ (s : List ℕ) (at : ℕ) (r : Taken) where
   pub variable-got : (x : ℕ) (c : Cursor) → r ≡ readField s 6 at → r ≡ Got x c → Variable x c ≡ variableAt s at
-  unfolding variableAt onField
+  unfolding variableAt on-taken
   variable-got x c e g = rw (sym e ∙ g)
 
   pub variable-past : r ≡ readField s 6 at → r ≡ Past → Missing ≡ variableAt s at
-  unfolding variableAt onField
+  unfolding variableAt on-taken
   variable-past e g = rw (sym e ∙ g)
 
   pub symbol-got : (book l : List ℕ) (f n : ℕ) (c : Cursor) → r ≡ readField s 8 at → r ≡ Got f c → n ≡ arityAt book l false f
       → Symbol f n c ≡ symbolAt book s at
-  unfolding symbolAt onField
+  unfolding symbolAt on-taken
   symbol-got book l f n c e g q = rw (sym e ∙ g) (ap (λ k. Symbol f k c) (q ∙ in-bytes-only book l f))
 
   pub symbol-past : (book : List ℕ) → r ≡ readField s 8 at → r ≡ Past → Missing ≡ symbolAt book s at
-  unfolding symbolAt onField
+  unfolding symbolAt on-taken
   symbol-past book e g = rw (sym e ∙ g)
 
   pub power-past : r ≡ readField s 8 at → r ≡ Past → Missing ≡ powerAt s at
-  unfolding powerAt onField
+  unfolding powerAt on-taken
   power-past e g = rw (sym e ∙ g)
 
-  module _ (f : ℕ) (c : Cursor) (r₁ : Field) (e : r ≡ readField s 8 at) (g : r ≡ Got f c) where
+  module _ (f : ℕ) (c : Cursor) (r₁ : Taken) (e : r ≡ readField s 8 at) (g : r ≡ Got f c) where
     pub power-past-a : r₁ ≡ readField s 12 (c .at) → r₁ ≡ Past → Missing ≡ powerAt s at
-    unfolding powerAt onField
+    unfolding powerAt on-taken
     power-past-a e₁ g₁ = rw (sym e ∙ g, sym e₁ ∙ g₁)
 
-    module _ (a : ℕ) (d : Cursor) (r₂ : Field) (e₁ : r₁ ≡ readField s 12 (c .at)) (g₁ : r₁ ≡ Got a d) where
+    module _ (a : ℕ) (d : Cursor) (r₂ : Taken) (e₁ : r₁ ≡ readField s 12 (c .at)) (g₁ : r₁ ≡ Got a d) where
       pub power-past-b : r₂ ≡ readField s 12 (d .at) → r₂ ≡ Past → Missing ≡ powerAt s at
-      unfolding powerAt onField
+      unfolding powerAt on-taken
       power-past-b e₂ g₂ = rw (sym e ∙ g, sym e₁ ∙ g₁, sym e₂ ∙ g₂)
 
       pub power-got : (b : ℕ) (i : Cursor) → r₂ ≡ readField s 12 (d .at) → r₂ ≡ Got b i → Power f a b i ≡ powerAt s at
-      unfolding powerAt onField
+      unfolding powerAt on-taken
       power-got b i e₂ g₂ = rw (sym e ∙ g, sym e₁ ∙ g₁, sym e₂ ∙ g₂)
 
   pub header-past : (book : List ℕ) → r ≡ readField s 2 at → r ≡ Past → Missing ≡ headerAt book s at
-  unfolding headerAt onField
+  unfolding headerAt on-taken
   header-past book e g = rw (sym e ∙ g)
 
   module _ (book : List ℕ) (tag : ℕ) (c : Cursor) (e : r ≡ readField s 2 at) (g : r ≡ Got tag c) where
     tagged : byTag book s tag (c .at) ≡ headerAt book s at
-    unfolding headerAt onField
+    unfolding headerAt on-taken
     tagged = rw (sym e ∙ g)
 
     pub header-variable : (h : Header) → tag ≡ 0 → h ≡ variableAt s (c .at) → h ≡ headerAt book s at
@@ -113,27 +113,27 @@ module _ (s : List ℕ) (at : ℕ) (r : Field) where
 -- ---- small numbers
 
 -- a and b have 12 bits
-unfoldable pub Small : Header → Type 0
-Small (Variable x c) = Unit {0}
-Small (Symbol f n c) = Unit {0}
-Small (Power f a b c) = (a < 4096) × (b < 4096)
-Small Missing = Unit {0}
+unfoldable pub SmallHeader : Header → Type 0
+SmallHeader (Variable x c) = Unit {0}
+SmallHeader (Symbol f n c) = Unit {0}
+SmallHeader (Power f a b c) = (a < 4096) × (b < 4096)
+SmallHeader Missing = Unit {0}
 
-small-field : (s : List ℕ) (w at : ℕ) (next : ℕ → Cursor → Header) → ((v : ℕ) (c : Cursor) → v < 2 ^ w → Small (next v c))
-    → Small (onField (readField s w at) next)
-unfolding onField Small
+small-field : (s : List ℕ) (w at : ℕ) (next : ℕ → Cursor → Header) → ((v : ℕ) (c : Cursor) → v < 2 ^ w → SmallHeader (next v c))
+    → SmallHeader (on-taken (readField s w at) next)
+unfolding on-taken SmallHeader
 small-field s w at next h = go (readField s w at) (λ v c e. subst (λ x. x < 2 ^ w) (read-got s w at v c e .0) (bits-lt s at w))
   where
-    go : (r : Field) → ((v : ℕ) (c : Cursor) → r ≡ Got v c → v < 2 ^ w) → Small (onField r next)
+    go : (r : Taken) → ((v : ℕ) (c : Cursor) → r ≡ Got v c → v < 2 ^ w) → SmallHeader (on-taken r next)
     go (Got v c) k = h v c (k v c refl)
     go Past k = tt
 
-either : (b : Bool) (h k : Header) → Small h → Small k → Small (cond b h k)
+either : (b : Bool) (h k : Header) → SmallHeader h → SmallHeader k → SmallHeader (cond b h k)
 either true h k p q = p
 either false h k p q = q
 
-pub header-small : (book s : List ℕ) (at : ℕ) → Small (headerAt book s at)
-unfolding headerAt byTag variableAt symbolAt powerAt Small
+pub header-small : (book s : List ℕ) (at : ℕ) → SmallHeader (headerAt book s at)
+unfolding headerAt byTag variableAt symbolAt powerAt SmallHeader
 header-small book s at =
     small-field s 2 at _ λ tag c _. either (eqb tag 0) _ _ (small-field s 6 (c .at) _ λ x d _. tt)
     (either (eqb tag 1) _ _ (small-field s 8 (c .at) _ λ f d _. tt)

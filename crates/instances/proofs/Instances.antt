@@ -12,19 +12,19 @@ use Rattle.patterns.specs.First.{Exp, Pattern, shift, one}
 use Rattle.patterns.specs.Push.{retag, expand}
 use Rattle.table.specs.Places.{SIDE}
 use Rattle.table.specs.Nodes.{stack, load}
-use Rattle.table.specs.Sides.{Room, Kept, Holds, Took}
+use Rattle.table.specs.Sides.{Room, Kept, Stacked, Pushes}
 use Rattle.table.specs.Marks.{Built}
 use Rattle.table.specs.declared.Pushed.{Pushed}
 use Rattle.table.specs.declared.Pushed.the-variants.{Count, NoRoom}
 use Rattle.table.proofs.Marks.{built-instance}
 use Rattle.instances.specs.Lying.{TermAt}
-use Rattle.instances.specs.Fillings.{entry, Entry, unlisted, listed, Fills}
-use Rattle.instances.specs.Instances.{Stored, Few, Builds}
-use Rattle.instances.specs.Walks.{single, Walk, Steps, walked}
+use Rattle.instances.specs.Fillings.{entry, Entry, unlisted, listed, FillsTold}
+use Rattle.instances.specs.Instances.{Stored, FewNodes, Builds}
+use Rattle.instances.specs.Walks.{single, Passage, Turns, walked}
 use Rattle.instances.specs.Filled.{wordOf, filled}
 use Rattle.instances.specs.declared.Header.{Header}
 use Rattle.instances.specs.declared.Header.the-variants.{Variable, Symbol, Power, Missing}
-use Rattle.instances.specs.declared.Place.{Place}
+use Rattle.instances.specs.declared.Stand.{Stand}
 use Rattle.instances.specs.declared.Turn.{Turn}
 use Rattle.instances.specs.declared.Turn.the-variants.{Over}
 use Rattle.instances.specs.declared.Side.the-variants.{Done, Full}
@@ -53,12 +53,12 @@ module _ (book cert w : List ℕ) (fills i j : ℕ) where
 
   module _ (base n : ℕ) (v : List ℕ) (r : Pushed) (h : Header) (word : ℕ) (e : word ≡ wordOf w fills h) where
     abbrev Wanted : Type 0
-    Wanted = Took base n (flatMap (filled book cert w fills i j) (single h)) w v r
+    Wanted = Pushes base n (flatMap (filled book cert w fills i j) (single h)) w v r
 
-    pub step-unlisted : word ≡ 0 → Took base n (retag (shift (i, j)) (single h)) w v r → Wanted
+    pub step-unlisted : word ≡ 0 → Pushes base n (retag (shift (i, j)) (single h)) w v r → Wanted
     step-unlisted z t = took-as n (reindexed-only h (sym e ∙ z)) t
 
-    pub step-listed : ¬ (word ≡ 0) → Took base n (walked book cert (word - 1) .met) w v r → Wanted
+    pub step-listed : ¬ (word ≡ 0) → Pushes base n (walked book cert (word - 1) .met) w v r → Wanted
     step-listed z t = took-as n (ap (λ k. walked book cert (k - 1) .met) e ∙ term-only h (λ q. z (e ∙ q))) t
 
 -- the table of a filling that lies below a side is not changed by what is pushed there
@@ -71,8 +71,8 @@ filled-kept book cert w v fills base i j (Power s a b c) h k = refl
 filled-kept book cert w v fills base i j Missing h k = refl
 
 pub step-filled : {base : ℕ} {w v : List ℕ} {r : Pushed} (book cert w₀ : List ℕ) (fills i j n : ℕ) (h : Header) → fills + 64 ≤ base → Kept base SIDE w₀ w
-    → Took base n (flatMap (filled book cert w fills i j) (single h)) w v r
-    → Took base n (flatMap (filled book cert w₀ fills i j) (single h)) w v r
+    → Pushes base n (flatMap (filled book cert w fills i j) (single h)) w v r
+    → Pushes base n (flatMap (filled book cert w₀ fills i j) (single h)) w v r
 step-filled {base} {w} {v} {r} book cert w₀ fills i j n h below k t = took-as n (filled-kept book cert w₀ w fills base i j h below k) t
 
 -- ---- the whole instance
@@ -83,7 +83,7 @@ unfolding stack load
 no-load w base = omega arith
 
 module _ (book cert w : List ℕ) (fills i j : ℕ) where
-  module _ (θ : Filling Exp) (F : Fills book cert w fills θ) where
+  module _ (θ : Filling Exp) (F : FillsTold book cert w fills θ) where
     at-variable : (x : ℕ) → filled book cert w fills i j (nvar x) ≡ nodes (θ x)
     unfolding filled nodes
     at-variable x = go (θ x) (F .each x)
@@ -92,7 +92,7 @@ module _ (book cert w : List ℕ) (fills i j : ℕ) where
         go _ (unlisted e) = rw (eq-eqb (entry w fills x) 0 e)
         go t (listed at e h) =
             let down : entry w fills x - 1 ≡ at = omega arith in
-            rw (ne-eqb (entry w fills x) 0 (λ z. omega arith), down) (ap (λ (v : Walk). v .met) (walked-term book cert at t h))
+            rw (ne-eqb (entry w fills x) 0 (λ z. omega arith), down) (ap (λ (v : Passage). v .met) (walked-term book cert at t h))
 
     instance-nodes : (ns : List (Node Exp)) → flatMap (filled book cert w fills i j) ns ≡ expand θ (retag (shift (i, j)) ns)
     unfolding flatMap retag expand filled
@@ -106,28 +106,28 @@ module _ (book cert w : List ℕ) (fills i j : ℕ) where
     whole = flatMap (filled book cert w fills i j) (walked book s at .met)
 
     -- the side has the normal form
-    instance-built : (r : Pushed) → Took base 0 whole w v r → (t : Pattern) (θ : Filling Exp) → TermAt book s at t → Fills book cert w fills θ
+    instance-built : (r : Pushed) → Pushes base 0 whole w v r → (t : Pattern) (θ : Filling Exp) → TermAt book s at t → FillsTold book cert w fills θ
         → Built base (some (fill θ (reindex one (i, j) t))) v r
     unfolding reindex
     instance-built r p t θ h F =
         built-instance base w v r (shift (i, j)) θ t
-        (took-as 0 (ap (λ (u : Walk). flatMap (filled book cert w fills i j) (u .met)) (walked-term book s at t h) ∙ instance-nodes θ F (nodes t)) p)
+        (took-as 0 (ap (λ (u : Passage). flatMap (filled book cert w fills i j) (u .met)) (walked-term book s at t h) ∙ instance-nodes θ F (nodes t)) p)
 
-    finished : (n e : ℕ) (ns : List (Node Exp)) → walked book s at ≡ record { met = ns; end = e } → Took base 0 whole w v (Count n)
+    finished : (n e : ℕ) (ns : List (Node Exp)) → walked book s at ≡ record { met = ns; end = e } → Pushes base 0 whole w v (Count n)
         → Builds book s cert base at i j fills w v (Done n e)
-    unfolding Stored Few Holds
+    unfolding Stored FewNodes Stacked
     finished n e ns q p = record {
-      told = λ t θ h F. (instance-built (Count n) p t θ h F, ap (λ (u : Walk). u .end) (sym q ∙ walked-term book s at t h));
+      told = λ t θ h F. (instance-built (Count n) p t θ h F, ap (λ (u : Passage). u .end) (sym q ∙ walked-term book s at t h));
       few = p .holds .0;
       kept = p .kept;
     }
 
-    pub built-over : {n left : ℕ} {p : Place} → Pushing (filled book cert w fills i j) book s at base 0 w v n left p → {r : Turn} → Steps book s left p r
+    pub built-over : {n left : ℕ} {p : Stand} → Pushing (filled book cert w fills i j) book s at base 0 w v n left p → {r : Turn} → Turns book s left p r
         → r ≡ Over → Builds book s cert base at i j fills w v (Done n (p .at))
     built-over {n} {left} {p} g k e = finished n (p .at) _ (going-over g k e) (pushing-over _ book s at base 0 w v n left p g k e)
 
     -- the next node fits
-    pub building-fits : (n left : ℕ) (p : Place) → Pushing (filled book cert w fills i j) book s at base 0 w v n left p
+    pub building-fits : (n left : ℕ) (p : Stand) → Pushing (filled book cert w fills i j) book s at base 0 w v n left p
         → (base + SIDE ≤ length w) × (fills + 64 ≤ base) → i < 65536 → j < 65536
         → Room base n v × ((load (stack v base n) ≤ 2 ^ 60) × (fills + 64 ≤ length v))
     building-fits n left p g before small-i small-j =
@@ -135,6 +135,6 @@ module _ (book cert w : List ℕ) (fills i j : ℕ) where
         let light = pushing-light _ book s at base 0 w v n left p g 0 (2 ^ 38) (no-load w base) (filled-light book cert w fills i j small-i small-j s at) in
         (room, (omega arith, omega (arith, room .within, before .1)))
 
-    pub built-full : Took base 0 whole w v NoRoom → Builds book s cert base at i j fills w v Full
-    unfolding Stored Few
+    pub built-full : Pushes base 0 whole w v NoRoom → Builds book s cert base at i j fills w v Full
+    unfolding Stored FewNodes
     built-full p = record { told = instance-built NoRoom p; few = tt; kept = p .kept }

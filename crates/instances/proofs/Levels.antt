@@ -7,96 +7,96 @@ use lib.Dec.{eqb}
 use borrow.Author.Tests.{eqb-true, eqb-false}
 use Rattle.bits.specs.declared.Cursor.{Cursor}
 use Rattle.patterns.specs.Term.{Terms, var, fun, pow, nil, cons, All, All*, nodes, nodes*}
-use Rattle.patterns.specs.First.{Exp, Pattern, Still}
+use Rattle.patterns.specs.First.{Exp, Pattern, Level}
 use Rattle.patterns.specs.Every.{Every}
 use Rattle.patterns.proofs.Every.{every-first, every-rest, every-append}
 use Rattle.table.specs.Answer.{Says}
 use Rattle.instances.specs.Lying.{TermAt}
-use Rattle.instances.specs.Walks.{single, start, Walk, Steps, walked, Calm}
+use Rattle.instances.specs.Walks.{single, first-stand, Passage, Turns, walked, LevelNode}
 use Rattle.instances.specs.Instances.{Levels}
 use Rattle.instances.specs.declared.Header.{Header}
 use Rattle.instances.specs.declared.Header.the-variants.{Variable, Symbol, Power, Missing}
-use Rattle.instances.specs.declared.Place.{Place}
+use Rattle.instances.specs.declared.Stand.{Stand}
 use Rattle.instances.specs.declared.Turn.{Turn}
 use Rattle.instances.specs.declared.Turn.the-variants.{Node as Met, Over}
 use Rattle.instances.proofs.Walks.{walked-term}
 use Rattle.instances.proofs.Goings.{Going, going-start, going-over, going-more, going-on}
 
 mutual
-  unfolding All nodes Every Calm
+  unfolding All nodes Every LevelNode
 
-  calm-all : (t : Pattern) → Every Calm (nodes t) → All Still t
-  calm-all (var x) c = tt
-  calm-all (fun f ts) c = calm-all* ts (c .1)
-  calm-all (pow s e t) c = (c .0, calm-all t (c .1))
+  level-node-all : (t : Pattern) → Every LevelNode (nodes t) → All Level t
+  level-node-all (var x) c = tt
+  level-node-all (fun f ts) c = level-node-all* ts (c .1)
+  level-node-all (pow s e t) c = (c .0, level-node-all t (c .1))
 
-  calm-all* : (ts : Terms Exp) → Every Calm (nodes* ts) → All* Still ts
-  calm-all* nil c = tt
-  calm-all* (cons t ts) c =
-      (calm-all t (every-first Calm (nodes t) (nodes* ts) c), calm-all* ts (every-rest Calm (nodes t) (nodes* ts) c))
+  level-node-all* : (ts : Terms Exp) → Every LevelNode (nodes* ts) → All* Level ts
+  level-node-all* nil c = tt
+  level-node-all* (cons t ts) c =
+      (level-node-all t (every-first LevelNode (nodes t) (nodes* ts) c), level-node-all* ts (every-rest LevelNode (nodes t) (nodes* ts) c))
 
 mutual
-  unfolding All nodes Every Calm
+  unfolding All nodes Every LevelNode
 
-  all-calm : (t : Pattern) → All Still t → Every Calm (nodes t)
-  all-calm (var x) a = (tt, tt)
-  all-calm (fun f ts) a = (tt, all-calm* ts a)
-  all-calm (pow s e t) a = (a .0, all-calm t (a .1))
+  all-level-node : (t : Pattern) → All Level t → Every LevelNode (nodes t)
+  all-level-node (var x) a = (tt, tt)
+  all-level-node (fun f ts) a = (tt, all-level-node* ts a)
+  all-level-node (pow s e t) a = (a .0, all-level-node t (a .1))
 
-  all-calm* : (ts : Terms Exp) → All* Still ts → Every Calm (nodes* ts)
-  all-calm* nil a = tt
-  all-calm* (cons t ts) a = every-append Calm (nodes t) (nodes* ts) (all-calm t (a .0)) (all-calm* ts (a .1))
+  all-level-node* : (ts : Terms Exp) → All* Level ts → Every LevelNode (nodes* ts)
+  all-level-node* nil a = tt
+  all-level-node* (cons t ts) a = every-append LevelNode (nodes t) (nodes* ts) (all-level-node t (a .0)) (all-level-node* ts (a .1))
 
 -- ---- one node
 
 module _ (h : Header) where
-  pub calm-variable : (x : ℕ) (c : Cursor) → h ≡ Variable x c → Says (Every Calm (single h)) true
-  unfolding Says Every Calm single
-  calm-variable x c e = rw e (tt, tt)
+  pub level-node-variable : (x : ℕ) (c : Cursor) → h ≡ Variable x c → Says (Every LevelNode (single h)) true
+  unfolding Says Every LevelNode single
+  level-node-variable x c e = rw e (tt, tt)
 
-  pub calm-symbol : (f n : ℕ) (c : Cursor) → h ≡ Symbol f n c → Says (Every Calm (single h)) true
-  unfolding Says Every Calm single
-  calm-symbol f n c e = rw e (tt, tt)
+  pub level-node-symbol : (f n : ℕ) (c : Cursor) → h ≡ Symbol f n c → Says (Every LevelNode (single h)) true
+  unfolding Says Every LevelNode single
+  level-node-symbol f n c e = rw e (tt, tt)
 
-  pub calm-power : (s a b : ℕ) (c : Cursor) → h ≡ Power s a b c → Says (Every Calm (single h)) (eqb a 0)
-  unfolding Says Every Calm single Still
-  calm-power s a b c e = rw e (go (eqb a 0) refl)
+  pub level-node-power : (s a b : ℕ) (c : Cursor) → h ≡ Power s a b c → Says (Every LevelNode (single h)) (eqb a 0)
+  unfolding Says Every LevelNode single Level
+  level-node-power s a b c e = rw e (go (eqb a 0) refl)
     where
       go : (r : Bool) → eqb a 0 ≡ r → Says ((a ≡ 0) × Unit {0}) r
       go true q = (eqb-true a 0 q, tt)
       go false q = λ z. eqb-false a 0 q (z .0)
 
-  pub calm-missing : h ≡ Missing → Says (Every Calm (single h)) true
+  pub level-node-missing : h ≡ Missing → Says (Every LevelNode (single h)) true
   unfolding Says Every single
-  calm-missing e = rw e tt
+  level-node-missing e = rw e tt
 
 -- ---- the walk that asks each node
 
-abbrev pub Calming : List ℕ → List ℕ → ℕ → ℕ → Place → Type 0
-Calming book s at left p = Going (Every Calm) book s at left p
+abbrev pub Levelling : List ℕ → List ℕ → ℕ → ℕ → Stand → Type 0
+Levelling book s at left p = Going (Every LevelNode) book s at left p
 
-pub calming-start : (book s : List ℕ) (at : ℕ) → Calming book s at 256 (start at)
+pub levelling-start : (book s : List ℕ) (at : ℕ) → Levelling book s at 256 (first-stand at)
 unfolding Every
-calming-start book s at = going-start book s at tt
+levelling-start book s at = going-start book s at tt
 
-met-nodes : {book s : List ℕ} {at : ℕ} (v : Walk) → walked book s at ≡ v → (t : Pattern) → TermAt book s at t → v .met ≡ nodes t
-met-nodes {book} {s} {at} v e t h = ap (λ (v : Walk). v .met) (sym e ∙ walked-term book s at t h)
+met-nodes : {book s : List ℕ} {at : ℕ} (v : Passage) → walked book s at ≡ v → (t : Pattern) → TermAt book s at t → v .met ≡ nodes t
+met-nodes {book} {s} {at} v e t h = ap (λ (v : Passage). v .met) (sym e ∙ walked-term book s at t h)
 
-module _ {book s : List ℕ} {at left : ℕ} {p : Place} (g : Calming book s at left p) {r : Turn} (k : Steps book s left p r) where
-  pub calming-over : r ≡ Over → Levels book s at true
+module _ {book s : List ℕ} {at left : ℕ} {p : Stand} (g : Levelling book s at left p) {r : Turn} (k : Turns book s left p r) where
+  pub levelling-over : r ≡ Over → Levels book s at true
   unfolding Says
-  calming-over e = record { told = λ t h. calm-all t (subst (Every Calm) (met-nodes _ (going-over g k e) t h) (g .holds)) }
+  levelling-over e = record { told = λ t h. level-node-all t (subst (Every LevelNode) (met-nodes _ (going-over g k e) t h) (g .holds)) }
 
-  module _ {h : Header} {q : Place} (e : r ≡ Met h q) where
-    pub calming-not : (b : Bool) → Says (Every Calm (single h)) b → not b ≡ true → Levels book s at false
+  module _ {h : Header} {q : Stand} (e : r ≡ Met h q) where
+    pub levelling-not : (b : Bool) → Says (Every LevelNode (single h)) b → not b ≡ true → Levels book s at false
     unfolding Says
-    calming-not true so z = absurd (false≢true z)
-    calming-not false wild z = record {
-      told = λ t l a. wild (every-rest Calm (g .met) (single h) (every-first Calm (g .met ++ single h) _
-          (subst (Every Calm) (sym (met-nodes _ (going-more g k e) t l)) (all-calm t a))));
+    levelling-not true so z = absurd (false≢true z)
+    levelling-not false wild z = record {
+      told = λ t l a. wild (every-rest LevelNode (g .met) (single h) (every-first LevelNode (g .met ++ single h) _
+          (subst (Every LevelNode) (sym (met-nodes _ (going-more g k e) t l)) (all-level-node t a))));
     }
 
-    pub calming-on : (b : Bool) → Says (Every Calm (single h)) b → not b ≡ false → Calming book s at (left - 1) q
+    pub levelling-on : (b : Bool) → Says (Every LevelNode (single h)) b → not b ≡ false → Levelling book s at (left - 1) q
     unfolding Says
-    calming-on true so z = going-on g k e (every-append Calm (g .met) (single h) (g .holds) so)
-    calming-on false wild z = absurd (false≢true (sym z))
+    levelling-on true so z = going-on g k e (every-append LevelNode (g .met) (single h) (g .holds) so)
+    levelling-on false wild z = absurd (false≢true (sym z))

@@ -13,8 +13,8 @@ use Rattle.table.proofs.Writes.{kept-then}
 use Rattle.instances.specs.Lying.{Lies, Known-arities}
 use Rattle.instances.specs.Taking.{Takes}
 use Rattle.instances.specs.declared.Read.{Read}
-use Rattle.instances.specs.Fillings.{Entry, unlisted, listed, Fills as Tells}
-use Rattle.instances.specs.Noting.{Noted, as-before, anew, Notes}
+use Rattle.instances.specs.Fillings.{Entry, unlisted, listed, FillsTold}
+use Rattle.instances.specs.Noting.{Noted, as-before, anew, NotesPairs}
 use Rattle.instances.specs.Listings.{Lists, Forgets}
 use Rattle.instances.proofs.Taking.{rest-at}
 
@@ -23,13 +23,13 @@ noted-tells : {book s : List ℕ} {x was word : ℕ} {t : Pattern} → was ≡ 0
 noted-tells z (as-before e) = unlisted (e ∙ z)
 noted-tells z (anew at e T) = listed at e T
 
-pub lists : {book s : List ℕ} {fills at : ℕ} {w v u : List ℕ} {c : Read} {r : ℕ} → Forgets fills w v → Takes s 7 at c → Notes book s fills (c .value) (c .at) v u r
+pub lists : {book s : List ℕ} {fills at : ℕ} {w v u : List ℕ} {c : Read} {r : ℕ} → Forgets fills w v → Takes s 7 at c → NotesPairs book s fills (c .value) (c .at) v u r
     → Lists book s fills at w u r
 unfolding filling-fields width
 lists {book} {s} {fills} {at} {w} {v} {u} {c} {r} F taken N = record { told = tell; kept = kept-then (F .kept) (N .kept) }
   where
     tell : (ars : List ℕ) → Known-arities book ars → (θ : Fills Exp) → FillsFit ars θ → Lies s at (filling-fields θ)
-        → Tells book s u fills (by θ) × (r ≡ at + width (filling-fields θ))
+        → FillsTold book s u fills (by θ) × (r ≡ at + width (filling-fields θ))
     tell ars a θ f L =
         let got = taken .told (length θ) (flatMap pair-fields θ) L in
         let rest = N .told ars a 0 θ (sym (got .0)) (f .rising) (rest-at taken L) in

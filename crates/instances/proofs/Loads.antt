@@ -12,12 +12,12 @@ use Rattle.table.specs.Nodes.{load}
 use Rattle.table.proofs.Loads.{load-append}
 use Rattle.instances.specs.Fillings.{entry}
 use Rattle.instances.specs.Headers.{headerAt}
-use Rattle.instances.specs.Walks.{single, onward, ahead, stopped, walk, walked}
+use Rattle.instances.specs.Walks.{single, next-stand, ahead, ended, walk, walked}
 use Rattle.instances.specs.Filled.{itself, filled}
 use Rattle.instances.specs.declared.Header.{Header}
 use Rattle.instances.specs.declared.Header.the-variants.{Variable, Symbol, Power, Missing}
-use Rattle.instances.specs.declared.Place.{Place}
-use Rattle.instances.proofs.Headers.{Small, header-small}
+use Rattle.instances.specs.declared.Stand.{Stand}
+use Rattle.instances.proofs.Headers.{SmallHeader, header-small}
 
 -- ---- a list for each node, one after the other
 
@@ -33,16 +33,16 @@ each-itself (m ∷ ns) = ap (λ l. m ∷ l) (each-itself ns)
 
 -- ---- a walk is as light as its headers
 
-module _ (f : Node Exp → List (Node Exp)) (cost : ℕ) (light : (h : Header) → Small h → load (flatMap f (single h)) ≤ cost) (book s : List ℕ) where
-  walk-light : (left : ℕ) (p : Place) → load (flatMap f (walk book s left p .met)) ≤ cost * left
+module _ (f : Node Exp → List (Node Exp)) (cost : ℕ) (light : (h : Header) → SmallHeader h → load (flatMap f (single h)) ≤ cost) (book s : List ℕ) where
+  walk-light : (left : ℕ) (p : Stand) → load (flatMap f (walk book s left p .met)) ≤ cost * left
   unfolding walk flatMap load
   walk-light zero p = omega arith
   walk-light (suc left) p =
       let h = headerAt book s (p .at) in
-      more left p h (onward (p .pending) h) (header-small book s (p .at)) (walk-light left (onward (p .pending) h)) (eqb (p .pending) 0)
+      more left p h (next-stand (p .pending) h) (header-small book s (p .at)) (walk-light left (next-stand (p .pending) h)) (eqb (p .pending) 0)
     where
-      more : (left : ℕ) (p : Place) (h : Header) (q : Place) → Small h → load (flatMap f (walk book s left q .met)) ≤ cost * left → (b : Bool)
-          → load (flatMap f (cond b (stopped p) (ahead (single h) (walk book s left q)) .met)) ≤ cost * suc left
+      more : (left : ℕ) (p : Stand) (h : Header) (q : Stand) → SmallHeader h → load (flatMap f (walk book s left q .met)) ≤ cost * left → (b : Bool)
+          → load (flatMap f (cond b (ended p) (ahead (single h) (walk book s left q)) .met)) ≤ cost * suc left
       more left p h q m k true = omega arith
       more left p h q m k false = rw (flatMap-append f (single h) (walk book s left q .met))
           (omega (arith, load-append (flatMap f (single h)) (flatMap f (walk book s left q .met)), light h m, mul-suc cost left))
@@ -52,8 +52,8 @@ module _ (f : Node Exp → List (Node Exp)) (cost : ℕ) (light : (h : Header) �
   walked-light at = walk-light 256 (record { at = at; pending = 1 })
 
 -- as it stands
-light-itself : (h : Header) → Small h → load (flatMap itself (single h)) ≤ 2 ^ 13
-unfolding flatMap single load Small
+light-itself : (h : Header) → SmallHeader h → load (flatMap itself (single h)) ≤ 2 ^ 13
+unfolding flatMap single load SmallHeader
 light-itself (Variable x c) m = omega arith
 light-itself (Symbol f n c) m = omega arith
 light-itself (Power f a b c) m = omega (arith, m .0, m .1)
@@ -65,8 +65,8 @@ spelled-light book s at =
 
 -- reindexed and filled
 module _ (book cert w : List ℕ) (fills i j : ℕ) (small-i : i < 65536) (small-j : j < 65536) where
-  light-filled : (h : Header) → Small h → load (flatMap (filled book cert w fills i j) (single h)) ≤ 2 ^ 30
-  unfolding flatMap single load Small filled shift
+  light-filled : (h : Header) → SmallHeader h → load (flatMap (filled book cert w fills i j) (single h)) ≤ 2 ^ 30
+  unfolding flatMap single load SmallHeader filled shift
   light-filled (Variable x c) m = rw append-nil (go (eqb (entry w fills x) 0))
     where
       go : (b : Bool) → load (cond b (nvar x ∷ []) (walked book cert (entry w fills x - 1) .met)) ≤ 2 ^ 30

@@ -5,7 +5,7 @@ use mathlib.Core.List.{List, [], _∷_, _++_}
 use native.Mathlib.Omega.{arith}
 use Rattle.bits.specs.Bits.{readField}
 use Rattle.bits.specs.Packed.{width, Reads}
-use Rattle.bits.specs.declared.Field.the-variants.{Got}
+use Rattle.bits.specs.declared.Taken.the-variants.{Got}
 use Rattle.bits.proofs.Fitting.{read-yes}
 use Rattle.bits.proofs.Groups.{width-append}
 use Rattle.grammar.specs.Listing.{Fields}

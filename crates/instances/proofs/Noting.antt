@@ -20,7 +20,7 @@ use Rattle.instances.specs.Fillings.{entry}
 use Rattle.instances.specs.Instances.{Skips}
 use Rattle.instances.proofs.Lying.{lies-front, lies-back}
 use Rattle.instances.proofs.Taking.{rest-at, term-at}
-use Rattle.instances.specs.Noting.{Noted, as-before, anew, Noting, Notes}
+use Rattle.instances.specs.Noting.{Noted, as-before, anew, Noting, NotesPairs}
 use Rattle.instances.proofs.Entries.{entry-here, entry-other, entry-kept}
 
 -- ---- what is noted
@@ -50,7 +50,7 @@ module _ (book s : List ℕ) (fills least x at : ℕ) (t : Pattern) (θ : Fills 
 -- ---- how the walk goes on
 
 module _ (book s : List ℕ) (fills n at : ℕ) (w : List ℕ) where
-  pub notes-none : n ≡ 0 → Notes book s fills n at w w at
+  pub notes-none : n ≡ 0 → NotesPairs book s fills n at w w at
   unfolding width flatMap
   notes-none e = record { told = λ ars a least θ k R L. go least θ k; kept = kept-self fills 64 w }
     where
@@ -60,7 +60,7 @@ module _ (book s : List ℕ) (fills n at : ℕ) (w : List ℕ) where
 
   -- the word of one variable, then the rest behind its term
   pub notes-pair : (c : Read) (end : ℕ) (u : List ℕ) (r : ℕ) → fills + 64 ≤ length w → n ≢ 0 → Takes s 6 at c → Skips book s (c .at) end
-      → Notes book s fills (n - 1) end (set w (fills + c .value) (c .at + 1)) u r → Notes book s fills n at w u r
+      → NotesPairs book s fills (n - 1) end (set w (fills + c .value) (c .at + 1)) u r → NotesPairs book s fills n at w u r
   unfolding width flatMap pair-fields Rising
   notes-pair c end u r room some taken S N = record {
     told = λ ars a least θ k R L. go ars a least θ k R L;

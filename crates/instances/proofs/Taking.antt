@@ -5,8 +5,8 @@ use mathlib.Core.List.{List, _∷_}
 use native.Mathlib.Omega.{arith}
 use Rattle.bits.specs.Bits.{readField}
 use Rattle.bits.specs.declared.Cursor.{Cursor}
-use Rattle.bits.specs.declared.Field.{Field}
-use Rattle.bits.specs.declared.Field.the-variants.{Got, Past}
+use Rattle.bits.specs.declared.Taken.{Taken}
+use Rattle.bits.specs.declared.Taken.the-variants.{Got, Past}
 use Rattle.bits.proofs.Bytes.{bits-lt}
 use Rattle.bits.proofs.Fitting.{read-got}
 use Rattle.patterns.specs.First.{Pattern}
@@ -23,14 +23,14 @@ positive zero = omega arith
 positive (suc w) = omega (arith, positive w)
 
 module _ (s : List ℕ) (w at : ℕ) (narrow : w ≤ 16) where
-  pub takes-past : {f : Field} → f ≡ readField s w at → f ≡ Past → Takes s w at (record { value = 0; at = 0 })
+  pub takes-past : {f : Taken} → f ≡ readField s w at → f ≡ Past → Takes s w at (record { value = 0; at = 0 })
   takes-past e p = record {
     told = λ v fs l. let g = lies-first s at w v fs narrow l in let z : _≡_ {A = ℕ} 0 1 = cc in absurd (omega arith);
     small = positive w;
     near = omega arith;
   }
 
-  pub takes-got : {f : Field} (v : ℕ) (d : Cursor) → f ≡ readField s w at → f ≡ Got v d → Takes s w at (record { value = v; at = d .at })
+  pub takes-got : {f : Taken} (v : ℕ) (d : Cursor) → f ≡ readField s w at → f ≡ Got v d → Takes s w at (record { value = v; at = d .at })
   takes-got v d e p =
       let got = read-got s w at v d (sym e ∙ p) in
       record {

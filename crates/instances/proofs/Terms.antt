@@ -10,7 +10,7 @@ use Rattle.patterns.specs.First.{Exp, Pattern, Pair, shift, one}
 use Rattle.patterns.specs.Formed.{Formed}
 use Rattle.patterns.proofs.Formed.{formed-fill, formed-exps}
 use Rattle.instances.specs.Lying.{TermAt, arities}
-use Rattle.instances.specs.Fillings.{Entry, unlisted, listed, Fills}
+use Rattle.instances.specs.Fillings.{Entry, unlisted, listed, FillsTold}
 
 same-exponent : (e : Exp) → shift (1, 0) e ≡ e
 unfolding shift
@@ -39,7 +39,7 @@ formed-entry (unlisted e) = tt
 formed-entry (listed at e h) = h .formed
 
 pub formed-instance : (book s cert w : List ℕ) (at fills : ℕ) (r : Pair) (t : Pattern) (θ : Filling Exp) → TermAt book s at t
-    → Fills book cert w fills θ → Formed (arities book) (fill θ (reindex one r t))
+    → FillsTold book cert w fills θ → Formed (arities book) (fill θ (reindex one r t))
 unfolding reindex
 formed-instance book s cert w at fills r t θ h F =
     formed-fill (arities book) θ (λ x. formed-entry (F .each x)) (reindex one r t) (formed-exps (arities book) (shift r) t (h .formed))

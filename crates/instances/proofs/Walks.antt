@@ -12,39 +12,39 @@ use Rattle.patterns.specs.Formed.{arguments, Formed, Formed*}
 use Rattle.grammar.specs.Listing.{term-fields, terms-fields}
 use Rattle.instances.specs.Lying.{Lies, arities, TermAt, behind}
 use Rattle.instances.specs.Headers.{headerAt}
-use Rattle.instances.specs.Walks.{single, onward, ahead, stopped, walk, walked}
+use Rattle.instances.specs.Walks.{single, next-stand, ahead, ended, walk, walked}
 use Rattle.instances.specs.declared.Header.{Header}
-use Rattle.instances.specs.declared.Place.{Place}
+use Rattle.instances.specs.declared.Stand.{Stand}
 use Rattle.instances.proofs.Lying.{lies-rest, lies-front, lies-back}
 use Rattle.instances.proofs.Headers.{found-variable, found-symbol, found-power}
 
-abbrev place : ℕ → ℕ → Place
+abbrev place : ℕ → ℕ → Stand
 place at pending = record { at = at; pending = pending }
 
 -- the walk of one node less
-pub walk-step : (book s : List ℕ) (left : ℕ) (p : Place) → ¬ (p .pending ≡ 0)
-    → walk book s (suc left) p ≡ ahead (single (headerAt book s (p .at))) (walk book s left (onward (p .pending) (headerAt book s (p .at))))
+pub walk-step : (book s : List ℕ) (left : ℕ) (p : Stand) → ¬ (p .pending ≡ 0)
+    → walk book s (suc left) p ≡ ahead (single (headerAt book s (p .at))) (walk book s left (next-stand (p .pending) (headerAt book s (p .at))))
 unfolding walk
 walk-step book s left p h = rw (ne-eqb (p .pending) 0 h)
 
 -- no term is to come
-pub walk-none : (book s : List ℕ) (left : ℕ) (p : Place) → p .pending ≡ 0 → walk book s left p ≡ stopped p
+pub walk-none : (book s : List ℕ) (left : ℕ) (p : Stand) → p .pending ≡ 0 → walk book s left p ≡ ended p
 unfolding walk
 walk-none book s zero p h = refl
 walk-none book s (suc left) p h = rw (eq-eqb (p .pending) 0 h)
 
 module _ (book s : List ℕ) where
-  step : (left at p : ℕ) (h : Header) → headerAt book s at ≡ h → walk book s (suc left) (place at (suc p)) ≡ ahead (single h) (walk book s left (onward (suc p) h))
+  step : (left at p : ℕ) (h : Header) → headerAt book s at ≡ h → walk book s (suc left) (place at (suc p)) ≡ ahead (single h) (walk book s left (next-stand (suc p) h))
   step left at p h e =
       walk-step book s left (place at (suc p)) (λ z. omega arith)
-      ∙ ap (λ k. ahead (single k) (walk book s left (onward (suc p) k))) e
+      ∙ ap (λ k. ahead (single k) (walk book s left (next-stand (suc p) k))) e
 
   -- the same walk, its numbers written in another way
   same-walk : {left left' at at' p p' : ℕ} → left ≡ left' → at ≡ at' → p ≡ p' → walk book s left (place at p) ≡ walk book s left' (place at' p')
   same-walk e f g = cc
 
   mutual
-    unfolding term-fields width size nodes Formed arguments single onward
+    unfolding term-fields width size nodes Formed arguments single next-stand
 
     walk-term : (t : Pattern) (at p k : ℕ) → Lies s at (term-fields t) → Formed (arities book) t
         → walk book s (size t + k) (place at (suc p)) ≡ ahead (nodes t) (walk book s k (place (behind at t) p))

@@ -19,5 +19,5 @@ pub data Entry (book cert : List ℕ) (x word : ℕ) : Pattern → Type 0 where
   listed : {t : Pattern} (at : ℕ) → word ≡ suc at → TermAt book cert at t → Entry book cert x word t
 
 -- the filling that the 64 words from `fills` on tell
-pub record Fills (book cert w : List ℕ) (fills : ℕ) (θ : Filling Exp) : Type 0 where
+pub record FillsTold (book cert w : List ℕ) (fills : ℕ) (θ : Filling Exp) : Type 0 where
   pub each : (x : ℕ) → Entry book cert x (entry w fills x) (θ x)

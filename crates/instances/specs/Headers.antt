@@ -5,30 +5,30 @@ use mathlib.Core.Bool.{cond}
 use lib.Dec.{eqb}
 use Rattle.bits.specs.Bits.{readField}
 use Rattle.bits.specs.declared.Cursor.{Cursor}
-use Rattle.bits.specs.declared.Field.{Field}
-use Rattle.bits.specs.declared.Field.the-variants.{Got, Past}
+use Rattle.bits.specs.declared.Taken.{Taken}
+use Rattle.bits.specs.declared.Taken.the-variants.{Got, Past}
 use Rattle.instances.specs.Lying.{arities}
 use Rattle.instances.specs.declared.Header.{Header}
 use Rattle.instances.specs.declared.Header.the-variants.{Variable, Symbol, Power, Missing}
 
 -- what a field leads to, if it is there
-unfoldable pub onField : Field → (ℕ → Cursor → Header) → Header
-onField (Got v c) next = next v c
-onField Past next = Missing
+unfoldable pub on-taken : Taken → (ℕ → Cursor → Header) → Header
+on-taken (Got v c) next = next v c
+on-taken Past next = Missing
 
 -- 01: "Tag 0: variable, 6 bits."
 unfoldable pub variableAt : List ℕ → ℕ → Header
-variableAt s at = onField (readField s 6 at) (λ x c. Variable x c)
+variableAt s at = on-taken (readField s 6 at) (λ x c. Variable x c)
 
 -- 01: "Tag 1: symbol, 8 bits"
 unfoldable pub symbolAt : List ℕ → List ℕ → ℕ → Header
-symbolAt book s at = onField (readField s 8 at) (λ f c. Symbol f (arities book f) c)
+symbolAt book s at = on-taken (readField s 8 at) (λ f c. Symbol f (arities book f) c)
 
 -- 01: "Tag 2: power, symbol 8 bits of arity 1, a 12 bits, b 12 bits."
 unfoldable pub powerAt : List ℕ → ℕ → Header
 powerAt s at =
-    onField (readField s 8 at)
-    (λ f c. onField (readField s 12 (c .at)) (λ a d. onField (readField s 12 (d .at)) (λ b e. Power f a b e)))
+    on-taken (readField s 8 at)
+    (λ f c. on-taken (readField s 12 (c .at)) (λ a d. on-taken (readField s 12 (d .at)) (λ b e. Power f a b e)))
 
 -- 01: "Tag 3 is refused."
 unfoldable pub byTag : List ℕ → List ℕ → ℕ → ℕ → Header
@@ -37,4 +37,4 @@ byTag book s tag at =
 
 -- 01: "a 2-bit tag for each node"
 unfoldable pub headerAt : List ℕ → List ℕ → ℕ → Header
-headerAt book s at = onField (readField s 2 at) (λ tag c. byTag book s tag (c .at))
+headerAt book s at = on-taken (readField s 2 at) (λ tag c. byTag book s tag (c .at))

@@ -7,14 +7,14 @@ use mathlib.Core.Option.{some}
 use Rattle.patterns.specs.Term.{Filling, fill, All}
 use Rattle.patterns.specs.Edition.{reindex}
 use Rattle.patterns.specs.Certificate.{Mark}
-use Rattle.patterns.specs.First.{Exp, Pattern, Still, one}
+use Rattle.patterns.specs.First.{Exp, Pattern, Level, one}
 use Rattle.table.specs.Places.{SIDE, NODES}
 use Rattle.table.specs.Sides.{Kept}
 use Rattle.table.specs.Marks.{Built}
 use Rattle.table.specs.Answer.{Says}
 use Rattle.table.specs.declared.Pushed.the-variants.{Count, NoRoom}
 use Rattle.instances.specs.Lying.{TermAt, behind}
-use Rattle.instances.specs.Fillings.{Fills}
+use Rattle.instances.specs.Fillings.{FillsTold}
 use Rattle.instances.specs.declared.Side.{Side}
 use Rattle.instances.specs.declared.Side.the-variants.{Done, Full}
 
@@ -24,20 +24,20 @@ pub record Skips (book s : List ℕ) (at r : ℕ) : Type 0 where
 
 -- the answer is whether "a = 0 in every power"
 pub record Levels (book s : List ℕ) (at : ℕ) (r : Bool) : Type 0 where
-  pub told : (t : Pattern) → TermAt book s at t → Says (All Still t) r
+  pub told : (t : Pattern) → TermAt book s at t → Says (All Level t) r
 
 -- the side at `base` has the normal form of m, and `end` is told; or it has more than 1,024 nodes
 unfoldable pub Stored : ℕ → Mark Exp → ℕ → List ℕ → Side → Type 0
 Stored base m end after (Done n e) = Built base m after (Count n) × (e ≡ end)
 Stored base m end after Full = Built base m after NoRoom
 
-unfoldable pub Few : Side → Type 0
-Few (Done n e) = n ≤ NODES
-Few Full = Unit {0}
+unfoldable pub FewNodes : Side → Type 0
+FewNodes (Done n e) = n ≤ NODES
+FewNodes Full = Unit {0}
 
 -- 01: "An instance is a term reindexed first and then filled; the filling's own terms are not reindexed."
 pub record Builds (book s cert : List ℕ) (base at i j fills : ℕ) (w after : List ℕ) (r : Side) : Type 0 where
-  pub told : (t : Pattern) (θ : Filling Exp) → TermAt book s at t → Fills book cert w fills θ
+  pub told : (t : Pattern) (θ : Filling Exp) → TermAt book s at t → FillsTold book cert w fills θ
       → Stored base (some (fill θ (reindex one (i, j) t))) (behind at t) after r
-  pub few : Few r
+  pub few : FewNodes r
   pub kept : Kept base SIDE w after

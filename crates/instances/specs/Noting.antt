@@ -24,7 +24,7 @@ pub record Noting (book s : List ℕ) (fills least : ℕ) (θ : Fills Exp) (w af
   pub below : (x : ℕ) → x < least → entry after fills x ≡ entry w fills x
 
 -- the n pairs that lie at bit `at` are noted, the answer is where they end, and no other word has changed
-pub record Notes (book s : List ℕ) (fills n at : ℕ) (w after : List ℕ) (r : ℕ) : Type 0 where
+pub record NotesPairs (book s : List ℕ) (fills n at : ℕ) (w after : List ℕ) (r : ℕ) : Type 0 where
   pub told : (ars : List ℕ) → Known-arities book ars → (least : ℕ) (θ : Fills Exp) → length θ ≡ n → Rising ars least θ
       → Lies s at (flatMap pair-fields θ) → Noting book s fills least θ w after × (r ≡ at + width (flatMap pair-fields θ))
   pub kept : Kept fills 64 w after

@@ -5,11 +5,11 @@ use mathlib.Core.List.{List, [], _∷_, _++_}
 use mathlib.Core.Bool.{cond}
 use lib.Dec.{eqb}
 use Rattle.patterns.specs.Term.{Node, nvar, nfun, npow}
-use Rattle.patterns.specs.First.{Exp, Still}
+use Rattle.patterns.specs.First.{Exp, Level}
 use Rattle.instances.specs.Headers.{headerAt}
 use Rattle.instances.specs.declared.Header.{Header}
 use Rattle.instances.specs.declared.Header.the-variants.{Variable, Symbol, Power, Missing}
-use Rattle.instances.specs.declared.Place.{Place}
+use Rattle.instances.specs.declared.Stand.{Stand}
 use Rattle.instances.specs.declared.Turn.{Turn}
 use Rattle.instances.specs.declared.Turn.the-variants.{Node as Met, Over}
 
@@ -21,59 +21,59 @@ single (Power s a b c) = npow s (a, b) ∷ []
 single Missing = []
 
 -- 01: "a node is followed at once by its arguments": the place behind a header, with so many terms still to come
-unfoldable pub onward : ℕ → Header → Place
-onward pending (Variable x c) = record { at = c .at; pending = pending - 1 }
-onward pending (Symbol f n c) = record { at = c .at; pending = pending - 1 + n }
-onward pending (Power s a b c) = record { at = c .at; pending = pending }
-onward pending Missing = record { at = 0; pending = 0 }
+unfoldable pub next-stand : ℕ → Header → Stand
+next-stand pending (Variable x c) = record { at = c .at; pending = pending - 1 }
+next-stand pending (Symbol f n c) = record { at = c .at; pending = pending - 1 + n }
+next-stand pending (Power s a b c) = record { at = c .at; pending = pending }
+next-stand pending Missing = record { at = 0; pending = 0 }
 
 -- q is that place, and its count of terms has grown by an arity at most
-pub record Next (pending : ℕ) (h : Header) (q : Place) : Type 0 where
-  pub is : q ≡ onward pending h
+pub record Next (pending : ℕ) (h : Header) (q : Stand) : Type 0 where
+  pub is : q ≡ next-stand pending h
   pub few : q .pending ≤ pending + 65536
 
 -- a lone term is to come
-abbrev pub start : ℕ → Place
-start at = record { at = at; pending = 1 }
+abbrev pub first-stand : ℕ → Stand
+first-stand at = record { at = at; pending = 1 }
 
 -- the nodes that a walk meets, and the bit where it ends
-pub record Walk : Type 0 where
+pub record Passage : Type 0 where
   pub met : List (Node Exp)
   pub end : ℕ
 
 -- nodes that are met first
-abbrev pub ahead : List (Node Exp) → Walk → Walk
+abbrev pub ahead : List (Node Exp) → Passage → Passage
 ahead ns v = record { met = ns ++ v .met; end = v .end }
 
 -- no term is to come
-abbrev pub stopped : Place → Walk
-stopped p = record { met = []; end = p .at }
+abbrev pub ended : Stand → Passage
+ended p = record { met = []; end = p .at }
 
 -- the walk from a place on, over at most `left` nodes
-unfoldable pub walk : List ℕ → List ℕ → ℕ → Place → Walk
-walk book s zero p = stopped p
+unfoldable pub walk : List ℕ → List ℕ → ℕ → Stand → Passage
+walk book s zero p = ended p
 walk book s (suc left) p =
-    cond (eqb (p .pending) 0) (stopped p)
-    (ahead (single (headerAt book s (p .at))) (walk book s left (onward (p .pending) (headerAt book s (p .at)))))
+    cond (eqb (p .pending) 0) (ended p)
+    (ahead (single (headerAt book s (p .at))) (walk book s left (next-stand (p .pending) (headerAt book s (p .at)))))
 
 -- the count of terms to come stays far below what a number holds
-abbrev pub Within : ℕ → Place → Type 0
+abbrev pub Within : ℕ → Stand → Type 0
 Within left p = p .pending + 65536 * left ≤ 2 ^ 32
 
 -- one step of the walk from p on: it is over, or it meets a header and goes on behind it
-unfoldable pub Stepped : List ℕ → List ℕ → ℕ → Place → Turn → Type 0
-Stepped book s left p Over = walk book s left p ≡ stopped p
+unfoldable pub Stepped : List ℕ → List ℕ → ℕ → Stand → Turn → Type 0
+Stepped book s left p Over = walk book s left p ≡ ended p
 Stepped book s left p (Met h q) = (0 < left) × Within (left - 1) q × (walk book s left p ≡ ahead (single h) (walk book s (left - 1) q))
 
-pub record Steps (book s : List ℕ) (left : ℕ) (p : Place) (r : Turn) : Type 0 where
+pub record Turns (book s : List ℕ) (left : ℕ) (p : Stand) (r : Turn) : Type 0 where
   pub is : Stepped book s left p r
 
 -- the walk over the term at a bit. 01: terms "have at most 256 nodes"
-unfoldable pub walked : List ℕ → List ℕ → ℕ → Walk
-walked book s at = walk book s 256 (start at)
+unfoldable pub walked : List ℕ → List ℕ → ℕ → Passage
+walked book s at = walk book s 256 (first-stand at)
 
 -- "a = 0", of a node
-unfoldable pub Calm : Node Exp → Type 0
-Calm (nvar x) = Unit {0}
-Calm (nfun f) = Unit {0}
-Calm (npow s e) = Still e
+unfoldable pub LevelNode : Node Exp → Type 0
+LevelNode (nvar x) = Unit {0}
+LevelNode (nfun f) = Unit {0}
+LevelNode (npow s e) = Level e

@@ -4,7 +4,7 @@ use crate::skip;
 ghost use Prim.Native.Nat.{_+_, _≤_};
 ghost use lib.ListN.{length};
 ghost use Rattle.instances.specs.Listings.{Lists, Forgets};
-ghost use Rattle.instances.specs.Noting.{Notes};
+ghost use Rattle.instances.specs.Noting.{NotesPairs};
 
 // No variable is filled: 64 words 0.
 pub fn forget(w: &mut [u64], fills: usize)
@@ -21,7 +21,7 @@ pub fn forget(w: &mut [u64], fills: usize)
 // The n pairs at a bit of s: each variable's word is one more than the bit where its term begins. The answer is where they end.
 fn list_pairs(book: &[u8], s: &[u8], w: &mut [u64], fills: usize, n: u16, at: usize) -> usize
     requires { ⌜ fills + 64 ≤ length (now w) ⌝ }
-    ensures { λ r. ⌜ Notes (now (book .entry)) (now (s .entry)) fills n at (now (w .entry)) (now (w .exit)) r ⌝ }
+    ensures { λ r. ⌜ NotesPairs (now (book .entry)) (now (s .entry)) fills n at (now (w .entry)) (now (w .exit)) r ⌝ }
 {
     if n == 0 {
         return at;

@@ -3,7 +3,7 @@ pub mod fillings;
 mod nodes;
 
 use bits::Cursor;
-use bits::Field;
+use bits::Taken;
 use nodes::header_at;
 use table::Item;
 use table::Pushed;
@@ -16,11 +16,11 @@ ghost use Rattle.patterns.specs.Every.{Every};
 ghost use Rattle.patterns.specs.Push.{retag};
 ghost use Rattle.table.specs.Answer.{Says};
 ghost use Rattle.table.specs.Nodes.{stack, load};
-ghost use Rattle.table.specs.Sides.{Room, Took};
+ghost use Rattle.table.specs.Sides.{Room, Pushes};
 ghost use Rattle.table.specs.Places.{SIDE};
 ghost use Rattle.instances.specs.Taking.{Takes};
 ghost use Rattle.instances.specs.Instances.{Skips, Levels, Builds};
-ghost use Rattle.instances.specs.Walks.{single, Next, Within, Steps, walked, Calm};
+ghost use Rattle.instances.specs.Walks.{single, Next, Within, Turns, walked, LevelNode};
 ghost use Rattle.instances.specs.Filled.{wordOf, filled};
 
 // A field, and the bit behind it.
@@ -51,14 +51,14 @@ enum Header {
 }
 
 // Where a walk stands: the bit, and how many terms are still to come.
-struct Place {
+struct Stand {
     at: usize,
     pending: usize,
 }
 
 // A turn of a walk: the header that it meets, and the place behind that node; or the walk is over.
 enum Turn {
-    Node { header: Header, place: Place },
+    Node { header: Header, place: Stand },
     Over,
 }
 
@@ -75,18 +75,18 @@ pub fn field(s: &[u8], w: usize, at: usize) -> Read
 {
     let c = Cursor { at };
     match c.take(w, s) {
-        Field::Past => Read { value: 0, at: 0 },
-        Field::Got(v, d) => Read { value: v, at: d.at },
+        Taken::Past => Read { value: 0, at: 0 },
+        Taken::Got(v, d) => Read { value: v, at: d.at },
     }
 }
 
 // The place behind a node.
-fn next(header: Header, pending: usize) -> Place
+fn next(header: Header, pending: usize) -> Stand
     requires { ⌜ (1 ≤ pending) × (pending ≤ 2 ^ 32) ⌝ }
     ensures { λ r. ⌜ Next pending header r ⌝ }
 {
     match header {
-        Header::Variable { past: c, .. } => Place {
+        Header::Variable { past: c, .. } => Stand {
             at: c.at,
             pending: pending - 1,
         },
@@ -94,19 +94,19 @@ fn next(header: Header, pending: usize) -> Place
             arity: n,
             past: c,
             ..
-        } => Place {
+        } => Stand {
             at: c.at,
             pending: pending - 1 + (n as usize),
         },
-        Header::Power { past: c, .. } => Place { at: c.at, pending },
-        Header::Missing => Place { at: 0, pending: 0 },
+        Header::Power { past: c, .. } => Stand { at: c.at, pending },
+        Header::Missing => Stand { at: 0, pending: 0 },
     }
 }
 
 // One turn of a walk that meets at most `left` nodes more.
-fn step(book: &[u8], s: &[u8], p: Place, left: usize) -> Turn
+fn step(book: &[u8], s: &[u8], p: Stand, left: usize) -> Turn
     requires { ⌜ Within left p ⌝ }
-    ensures { λ r. ⌜ Steps (now (book .entry)) (now (s .entry)) left p r ⌝ }
+    ensures { λ r. ⌜ Turns (now (book .entry)) (now (s .entry)) left p r ⌝ }
 {
     let pending = p.pending;
     if left == 0 {
@@ -124,7 +124,7 @@ fn step(book: &[u8], s: &[u8], p: Place, left: usize) -> Turn
 pub fn skip(book: &[u8], s: &[u8], at: usize) -> usize
     ensures { λ r. ⌜ Skips (now (book .entry)) (now (s .entry)) at r ⌝ }
 {
-    let mut p = Place { at, pending: 1 };
+    let mut p = Stand { at, pending: 1 };
     let mut left: usize = 256;
     loop {
         let Turn::Node { place, .. } = step(book, s, p, left) else {
@@ -136,8 +136,8 @@ pub fn skip(book: &[u8], s: &[u8], at: usize) -> usize
 }
 
 // Whether a = 0 in a node.
-fn calm(header: Header) -> bool
-    ensures { λ r. ⌜ Says (Every Calm (single header)) r ⌝ }
+fn level_node(header: Header) -> bool
+    ensures { λ r. ⌜ Says (Every LevelNode (single header)) r ⌝ }
 {
     match header {
         Header::Variable { .. } => true,
@@ -151,13 +151,13 @@ fn calm(header: Header) -> bool
 pub fn level(book: &[u8], s: &[u8], at: usize) -> bool
     ensures { λ r. ⌜ Levels (now (book .entry)) (now (s .entry)) at r ⌝ }
 {
-    let mut p = Place { at, pending: 1 };
+    let mut p = Stand { at, pending: 1 };
     let mut left: usize = 256;
     loop {
         let Turn::Node { header, place } = step(book, s, p, left) else {
             return true;
         };
-        if !calm(header) {
+        if !level_node(header) {
             return false;
         }
         p = place;
@@ -169,7 +169,7 @@ pub fn level(book: &[u8], s: &[u8], at: usize) -> bool
 fn push_node(w: &mut [u64], base: usize, n: usize, header: Header, i: u16, j: u16) -> Pushed
     requires { ⌜ Room base n (now w) ⌝ }
     requires { ⌜ load (stack (now w) base n) ≤ 2 ^ 62 ⌝ }
-    ensures { λ r. ⌜ Took base n (retag (shift (i, j)) (single header)) (now (w .entry)) (now (w .exit)) r ⌝ }
+    ensures { λ r. ⌜ Pushes base n (retag (shift (i, j)) (single header)) (now (w .entry)) (now (w .exit)) r ⌝ }
 {
     match header {
         Header::Variable { variable: x, .. } => table::push(w, base, n, Item::Variable(x)),
@@ -188,10 +188,10 @@ fn push_node(w: &mut [u64], base: usize, n: usize, header: Header, i: u16, j: u1
 fn spell(book: &[u8], s: &[u8], w: &mut [u64], base: usize, count: usize, at: usize) -> Pushed
     requires { ⌜ Room base count (now w) ⌝ }
     requires { ⌜ load (stack (now w) base count) ≤ 2 ^ 60 ⌝ }
-    ensures { λ r. ⌜ Took base count (walked (now (book .entry)) (now (s .entry)) at .met) (now (w .entry)) (now (w .exit)) r ⌝ }
+    ensures { λ r. ⌜ Pushes base count (walked (now (book .entry)) (now (s .entry)) at .met) (now (w .entry)) (now (w .exit)) r ⌝ }
 {
     let mut n = count;
-    let mut p = Place { at, pending: 1 };
+    let mut p = Stand { at, pending: 1 };
     let mut left: usize = 256;
     loop {
         let Turn::Node { header, place } = step(book, s, p, left) else {
@@ -238,7 +238,7 @@ fn push_filled(
 ) -> Pushed
     requires { ⌜ Room base n (now w) ⌝ }
     requires { ⌜ (load (stack (now w) base n) ≤ 2 ^ 60) × (fills + 64 ≤ length (now w)) ⌝ }
-    ensures { λ r. ⌜ Took base n (flatMap (filled (now (book .entry)) (now (certificate .entry)) (now (w .entry)) fills i j) (single header)) (now (w .entry)) (now (w .exit)) r ⌝ }
+    ensures { λ r. ⌜ Pushes base n (flatMap (filled (now (book .entry)) (now (certificate .entry)) (now (w .entry)) fills i j) (single header)) (now (w .entry)) (now (w .exit)) r ⌝ }
 {
     let word = word_of(w, fills, header);
     if word == 0 {
@@ -264,7 +264,7 @@ pub fn build(
     ensures { λ r. ⌜ Builds (now (book .entry)) (now (s .entry)) (now (certificate .entry)) base at i j fills (now (w .entry)) (now (w .exit)) r ⌝ }
 {
     let mut nodes: usize = 0;
-    let mut p = Place { at, pending: 1 };
+    let mut p = Stand { at, pending: 1 };
     let mut left: usize = 256;
     loop {
         let Turn::Node { header, place } = step(book, s, p, left) else {

@@ -1,7 +1,7 @@
 // The header of the node at a bit: its tag, and the fields that are its own.
 use crate::Header;
 use bits::Cursor;
-use bits::Field;
+use bits::Taken;
 ghost use mathlib.Core.Path.{_≡_};
 ghost use Rattle.instances.specs.Headers.{variableAt, symbolAt, powerAt, headerAt};
 
@@ -10,11 +10,11 @@ fn variable(s: &[u8], c: Cursor) -> Header
     ensures { λ r. ⌜ r ≡ variableAt (now (s .entry)) (c .at) ⌝ }
 {
     match c.take(6, s) {
-        Field::Got(x, d) => Header::Variable {
+        Taken::Got(x, d) => Header::Variable {
             variable: x,
             past: d,
         },
-        Field::Past => Header::Missing,
+        Taken::Past => Header::Missing,
     }
 }
 
@@ -24,12 +24,12 @@ fn symbol(book: &[u8], s: &[u8], c: Cursor) -> Header
 {
     let none = [0u16; 0];
     match c.take(8, s) {
-        Field::Got(f, d) => Header::Symbol {
+        Taken::Got(f, d) => Header::Symbol {
             symbol: f,
             arity: terms::arity(book, &none, false, f),
             past: d,
         },
-        Field::Past => Header::Missing,
+        Taken::Past => Header::Missing,
     }
 }
 
@@ -37,13 +37,13 @@ fn symbol(book: &[u8], s: &[u8], c: Cursor) -> Header
 fn power(s: &[u8], c: Cursor) -> Header
     ensures { λ r. ⌜ r ≡ powerAt (now (s .entry)) (c .at) ⌝ }
 {
-    let Field::Got(f, d) = c.take(8, s) else {
+    let Taken::Got(f, d) = c.take(8, s) else {
         return Header::Missing;
     };
-    let Field::Got(a, e) = d.take(12, s) else {
+    let Taken::Got(a, e) = d.take(12, s) else {
         return Header::Missing;
     };
-    let Field::Got(b, g) = e.take(12, s) else {
+    let Taken::Got(b, g) = e.take(12, s) else {
         return Header::Missing;
     };
     Header::Power {
@@ -59,7 +59,7 @@ pub fn header_at(book: &[u8], s: &[u8], at: usize) -> Header
     ensures { λ r. ⌜ r ≡ headerAt (now (book .entry)) (now (s .entry)) at ⌝ }
 {
     let c = Cursor { at };
-    let Field::Got(tag, d) = c.take(2, s) else {
+    let Taken::Got(tag, d) = c.take(2, s) else {
         return Header::Missing;
     };
     match tag {

@@ -7,7 +7,7 @@ ghost use lib.ListN.{take};
 ghost use Rattle.table.specs.Places.{WORDS};
 ghost use Rattle.io.specs.Counts.{Counts};
 ghost use Rattle.verdicts.specs.Program.{judging-input};
-ghost use Rattle.verdicts.specs.Lines.{line-of};
+ghost use Rattle.verdicts.specs.Printing.{line-of};
 
 // The line that is printed for an input, in the first bytes of `out`; the answer is its length.
 fn line_for(input: &[u8], out: &mut [u8; 91]) -> usize

@@ -11,7 +11,7 @@ use Rattle.table.specs.Answer.{Says}
 use lib.ListN.{length, take, drop, replicate, length-drop}
 use lib.Seq.{take-all}
 use Rattle.patterns.specs.First.{Pace}
-use Rattle.patterns.specs.Judge.{Verdict}
+use Rattle.patterns.specs.Judge.{Ruling}
 use Rattle.verdicts.specs.Judging.{judging-files, work-after}
 use Rattle.verdicts.specs.Program.{book-length, judging-parts, judging-framed}
 use Rattle.verdicts.proofs.Framing.{input-whole}
@@ -45,7 +45,7 @@ module _ (work : List ℕ) where
 -- ---- the framing
 
 -- what `&input[2..end]` and `&input[end..]` hand over is the book and the certificate
-pub handed-parts : (input : List ℕ) {n : ℕ} {v : Verdict Pace} → n ≡ book-length input → length input ≤ 49154 → 2 + n ≤ length input
+pub handed-parts : (input : List ℕ) {n : ℕ} {v : Ruling Pace} → n ≡ book-length input → length input ≤ 49154 → 2 + n ≤ length input
     → v ≡ judging-files (take (2 + n - 2) (drop 2 input)) (take (length input - (2 + n)) (drop (2 + n) input))
     → v ≡ judging-framed input
 handed-parts input {n} m k h e =

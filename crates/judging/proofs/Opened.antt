@@ -8,12 +8,12 @@ use Rattle.fields.specs.Source.{start}
 use Rattle.answers.specs.Numbers.{paper-refusal, paper-verdict}
 use Rattle.bits.specs.Bits.{roomOf}
 use Rattle.bits.specs.Packed.{width, Reads}
-use Rattle.patterns.specs.Refusal.{book-place, certificate-place}
+use Rattle.patterns.specs.Reason.{book-place, certificate-place}
 use Rattle.patterns.specs.First.{Exp, Pair, Pace}
 use Rattle.patterns.specs.Certificate.{Certificate}
 use Rattle.fields.specs.Grammar.{Grammar}
 use Rattle.fields.specs.Spells.{Spells}
-use Rattle.fields.proofs.Found.{trace-reads, trace-room, trace-spells}
+use Rattle.fields.proofs.Reading.{trace-reads, trace-room, trace-spells}
 use Rattle.grammar.specs.Books.{RuleBook, a-book}
 use Rattle.grammar.specs.Listing.{Fields, book-fields, certificate-fields}
 use Rattle.grammar.specs.Limits.{BookFits, CertificateFits}
@@ -22,7 +22,7 @@ use Rattle.grammar.proofs.CertificateFields.{a-certificate-exactly}
 use Rattle.terms.specs.Values.{nothing}
 use Rattle.layout.specs.declared.Opening.{Opening}
 use Rattle.layout.specs.declared.Opening.the-variants.{Open, Shut}
-use Rattle.answers.specs.declared.Refusal.{Refusal as Fault}
+use Rattle.answers.specs.declared.Refusal.{Refusal}
 use Rattle.layout.specs.Files.{good, open-bytes, open-book, open-certificate, certificate-of}
 use Rattle.layout.specs.Openings.{Beside, CertificateOpened}
 use Rattle.layout.proofs.Opens.{in-bytes}
@@ -30,7 +30,7 @@ use Rattle.layout.proofs.Answering.{opening-shut, opening-good}
 use Rattle.layout.proofs.Besides.{arities-known}
 use Rattle.instances.specs.Lying.{Lies}
 use Rattle.lines.specs.Certificates.{JudgesLines}
-use Rattle.answers.specs.declared.Verdict.{Verdict as Ruling}
+use Rattle.answers.specs.declared.Verdict.{Verdict}
 use Rattle.answers.specs.declared.Verdict.the-variants.{Refused}
 use Rattle.verdicts.specs.Judging.{judging-certificate}
 use Rattle.verdicts.proofs.Layers.{certificate-refused, both-opened}
@@ -78,13 +78,13 @@ certificate-lies {s} {b} {K} {fs} f e =
 -- ---- the certificate beside its book
 
 module _ {book counts certificate : List ℕ} {o : Opening} (B : Beside book counts) (C : CertificateOpened book certificate o) where
-  pub certificate-shut : {r : Fault} → o ≡ Shut r → paper-verdict (Refused r) ≡ judging-certificate book certificate
+  pub certificate-shut : {r : Refusal} → o ≡ Shut r → paper-verdict (Refused r) ≡ judging-certificate book certificate
   unfolding paper-verdict
   certificate-shut {r} e =
       sym (certificate-refused book certificate (B .tree) (B .fields) (B .opened) (paper-refusal r)
       (opening-shut nothing (open-certificate (B .tree) certificate) (C .told (B .tree) (B .fields) (B .opened)) e))
 
-  pub certificate-judged : {v n k : ℕ} {w after : List ℕ} {r : Ruling} → o ≡ Open v n k → JudgesLines book certificate w after r
+  pub certificate-judged : {v n k : ℕ} {w after : List ℕ} {r : Verdict} → o ≡ Open v n k → JudgesLines book certificate w after r
       → paper-verdict r ≡ judging-certificate book certificate
   certificate-judged e j =
       let g = opening-good nothing (open-certificate (B .tree) certificate) (C .told (B .tree) (B .fields) (B .opened)) e in

@@ -8,13 +8,13 @@ use lib.ListN.{length, replicate}
 use Rattle.answers.specs.Numbers.{paper-refusal, paper-pace, paper-verdict}
 use Rattle.answers.proofs.Inverses.{verdict-tells, one-verdict}
 use Rattle.patterns.specs.First.{Pace}
-use Rattle.patterns.specs.Judge.{Verdict}
-use Rattle.answers.specs.declared.Refusal.{Refusal as Fault}
+use Rattle.patterns.specs.Judge.{Ruling}
+use Rattle.answers.specs.declared.Refusal.{Refusal}
 use Rattle.verdicts.specs.Judging.{refusal-one}
 use Rattle.verdicts.specs.Demands.{Acceptable, FirstRefusal, NeverStuck}
 use Rattle.verdicts.specs.Program.{framing, InputVerdict, AcceptableInput}
 use Rattle.answers.specs.declared.Acceptance.{Acceptance}
-use Rattle.answers.specs.declared.Verdict.{Verdict as Ruling}
+use Rattle.answers.specs.declared.Verdict.{Verdict}
 use Rattle.answers.specs.declared.Verdict.the-variants.{Accepted, Refused}
 use Rattle.verdicts.proofs.Demands.{accepts-exactly-when, refuses-exactly-when, accepted-never-gets-stuck}
 use Rattle.verdicts.proofs.Framing.{input-exactly, input-accepted-exactly-when, accepted-input-never-gets-stuck}
@@ -24,12 +24,12 @@ use Rattle.verdicts.proofs.JudgedTable.{judging-in-table, judging-input-in-tabl
 use Rattle.judging.specs.Judged.{Judged, JudgedInput}
 
 -- what holds exactly for a verdict in 01's numbers holds exactly for the answer with these numbers
-told-as : {P : Type 0} {v : Verdict Pace} (r s : Ruling) → paper-verdict r ≡ v → (v ≡ paper-verdict s) ↔ P → (r ≡ s) ↔ P
+told-as : {P : Type 0} {v : Ruling Pace} (r s : Verdict) → paper-verdict r ≡ v → (v ≡ paper-verdict s) ↔ P → (r ≡ s) ↔ P
 told-as r s e h = (λ q. h .0 (sym e ∙ ap paper-verdict q), λ p. verdict-tells r s (e ∙ h .1 p))
 
 -- ---- `judge`
 
-module _ {book certificate work : List ℕ} {r : Ruling} {after : List ℕ} (j : Judged book certificate work r after) where
+module _ {book certificate work : List ℕ} {r : Verdict} {after : List ℕ} (j : Judged book certificate work r after) where
   -- Demand 2: it accepts exactly what is acceptable, with the closing's own line, k and α.
   pub accepts : (a : Acceptance) → (r ≡ Accepted a) ↔ Acceptable book certificate (length work) (a .line) (paper-pace a)
   unfolding paper-verdict
@@ -38,14 +38,14 @@ module _ {book certificate work : List ℕ} {r : Ruling} {after : List ℕ} (j :
       (accepts-exactly-when book certificate (j .book-bytes) (j .bytes) (length work) (a .line) (paper-pace a))
 
   -- It gives exactly the refusal of the first rule broken.
-  pub refuses : (f : Fault) → (r ≡ Refused f) ↔ FirstRefusal book certificate (length work) (paper-refusal f)
+  pub refuses : (f : Refusal) → (r ≡ Refused f) ↔ FirstRefusal book certificate (length work) (paper-refusal f)
   unfolding paper-verdict
   refuses f =
       told-as r (Refused f) (j .answered)
       (refuses-exactly-when book certificate (j .book-bytes) (j .bytes) (length work) (paper-refusal f))
 
   -- Demand 1: every refusal is one out of 01's table.
-  pub in-table : (f : Fault) → r ≡ Refused f → InTable (paper-refusal f)
+  pub in-table : (f : Refusal) → r ≡ Refused f → InTable (paper-refusal f)
   unfolding paper-verdict
   in-table f e = judging-in-table book certificate (length work) (paper-refusal f) (sym (j .answered) ∙ ap paper-verdict e)
 
@@ -64,14 +64,14 @@ module _ {book certificate work : List ℕ} {r : Ruling} {after : List ℕ} (j :
   table-cleared n = j .cleared ∙ work-cleared book certificate work (λ e. n (j .answered ∙ e))
 
   -- No second verdict and no second work table fit the contract.
-  pub one-answer : {s : Ruling} {other : List ℕ} → Judged book certificate work s other → (r ≡ s) × (after ≡ other)
+  pub one-answer : {s : Verdict} {other : List ℕ} → Judged book certificate work s other → (r ≡ s) × (after ≡ other)
   one-answer {s} k = one-verdict r s (j .answered, j .cleared) (k .answered, k .cleared)
 
 -- ---- `judge_input`
 
-module _ {input work : List ℕ} {r : Ruling} {after : List ℕ} (j : JudgedInput input work r after) where
+module _ {input work : List ℕ} {r : Verdict} {after : List ℕ} (j : JudgedInput input work r after) where
   -- It answers 1 for a short table, then 2 for a long input, 3 for one that is cut short, and else what `judge` does for its parts.
-  pub answers-input : (s : Ruling) → (r ≡ s) ↔ InputVerdict input (length work) (paper-verdict s)
+  pub answers-input : (s : Verdict) → (r ≡ s) ↔ InputVerdict input (length work) (paper-verdict s)
   answers-input s = told-as r s (j .answered) (input-exactly input (j .bytes) (length work) (paper-verdict s))
 
   pub accepts-input : (a : Acceptance) → (r ≡ Accepted a) ↔ AcceptableInput input (length work) (a .line) (paper-pace a)
@@ -87,7 +87,7 @@ module _ {input work : List ℕ} {r : Ruling} {after : List ℕ} (j : JudgedInpu
       accepted-input-never-gets-stuck input (j .bytes) (length work) (a .line) (a .k) (a .alpha)
       (sym (j .answered) ∙ ap paper-verdict e)
 
-  pub in-table-input : (f : Fault) → r ≡ Refused f → InTable (paper-refusal f)
+  pub in-table-input : (f : Refusal) → r ≡ Refused f → InTable (paper-refusal f)
   unfolding paper-verdict
   in-table-input f e = judging-input-in-table input (length work) (paper-refusal f) (sym (j .answered) ∙ ap paper-verdict e)
 
@@ -97,5 +97,5 @@ module _ {input work : List ℕ} {r : Ruling} {after : List ℕ} (j : JudgedInpu
   pub input-table-cleared : paper-verdict r ≢ refusal-one → after ≡ replicate (length work) 0
   input-table-cleared n = j .cleared ∙ input-work-cleared input work (λ e. n (j .answered ∙ e))
 
-  pub one-input-answer : {s : Ruling} {other : List ℕ} → JudgedInput input work s other → (r ≡ s) × (after ≡ other)
+  pub one-input-answer : {s : Verdict} {other : List ℕ} → JudgedInput input work s other → (r ≡ s) × (after ≡ other)
   one-input-answer {s} k = one-verdict r s (j .answered, j .cleared) (k .answered, k .cleared)

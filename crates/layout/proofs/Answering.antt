@@ -7,12 +7,12 @@ use borrow.Author.Tests.{lt-ltb, le-ltb}
 use lib.ListN.{length, drop}
 use Rattle.answers.specs.Carried.{refusal-at}
 use Rattle.answers.specs.Numbers.{filled-with, refused-with, paper-refusal, paper-answer}
-use Rattle.patterns.specs.Refusal.{Refusal}
+use Rattle.patterns.specs.Reason.{Reason}
 use Rattle.answers.specs.declared.Answer.{Answer}
 use Rattle.answers.specs.declared.Answer.the-variants.{Filled, Refused}
 use Rattle.layout.specs.declared.Opening.{Opening}
 use Rattle.layout.specs.declared.Opening.the-variants.{Open, Shut}
-use Rattle.answers.specs.declared.Refusal.{Refusal as Fault}
+use Rattle.answers.specs.declared.Refusal.{Refusal}
 use Rattle.layout.specs.Files.{Opened, good, bad}
 use Rattle.layout.specs.Answers.{Given, gives, refuses, told, output}
 use Rattle.layout.specs.Promises.{Answers}
@@ -37,12 +37,12 @@ eight-case = refl
 -- ---- what is answered
 
 module _ (w : ℕ) (g : Given) (out : List ℕ) where
-  pub answers-refusal : (r : Answer) {q : Refusal} → g ≡ refuses q → paper-answer r ≡ refused-with q → Answers w g out r out
+  pub answers-refusal : (r : Answer) {q : Reason} → g ≡ refuses q → paper-answer r ≡ refused-with q → Answers w g out r out
   unfolding told output
   answers-refusal r e p = record { answered = p ∙ rw e; filled = rw e }
 
   -- a refusal that was handed on
-  pub answers-shut : (q : Fault) → g ≡ refuses (paper-refusal q) → Answers w g out (Refused q) out
+  pub answers-shut : (q : Refusal) → g ≡ refuses (paper-refusal q) → Answers w g out (Refused q) out
   unfolding paper-answer
   answers-shut q e = answers-refusal (Refused q) e refl
 
@@ -62,13 +62,13 @@ module _ (w : ℕ) (g : Given) (out : List ℕ) where
 
 -- ---- an opening, by what was seen
 
-pub opening-shut : {A : Type 0} (val : A → ℕ) (x : Opened A) {o : Opening} {r : Fault} → sight o ≡ seen val x → o ≡ Shut r
+pub opening-shut : {A : Type 0} (val : A → ℕ) (x : Opened A) {o : Opening} {r : Refusal} → sight o ≡ seen val x → o ≡ Shut r
     → x ≡ bad (paper-refusal r)
 unfolding sight seen
 opening-shut val (good a fs) h e = let q = sym (ap sight e) ∙ h in let z : _≡_ {A = ℕ} 0 1 = cc q in absurd (omega arith)
 opening-shut val (bad k) h e = let q = sym (ap sight e) ∙ h in cc q
 
-pub record Good {A : Type 0} (val : A → ℕ) (x : Opened A) (v n k : ℕ) : Type 0 where
+pub record GoodFile {A : Type 0} (val : A → ℕ) (x : Opened A) (v n k : ℕ) : Type 0 where
   pub tree : A
   pub fields : List (ℕ × ℕ)
   pub is : x ≡ good tree fields
@@ -77,7 +77,7 @@ pub record Good {A : Type 0} (val : A → ℕ) (x : Opened A) (v n k : ℕ) : Ty
   pub wide : width fields ≡ k
 
 pub opening-good : {A : Type 0} (val : A → ℕ) (x : Opened A) {o : Opening} {v n k : ℕ} → sight o ≡ seen val x → o ≡ Open v n k
-    → Good val x v n k
+    → GoodFile val x v n k
 unfolding sight seen
 opening-good val (good a fs) h e =
     let q = sym (ap sight e) ∙ h in

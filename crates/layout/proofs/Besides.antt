@@ -5,10 +5,10 @@ use mathlib.Core.List.{List, []}
 use mathlib.Core.Bool.{false}
 use native.Mathlib.Omega.{arith}
 use lib.ListN.{length, take, length-map}
-use Rattle.patterns.specs.Refusal.{book-place}
-use Rattle.fields.specs.declared.Cursor.{Cursor}
+use Rattle.patterns.specs.Reason.{book-place}
+use Rattle.fields.specs.declared.Walker.{Walker}
 use Rattle.fields.specs.declared.Walk.{Walk}
-use Rattle.fields.specs.Source.{Source, from, fieldAt, start}
+use Rattle.fields.specs.Source.{Source, source, fieldAt, start}
 use Rattle.fields.specs.Grammar.{outcome}
 use Rattle.fields.specs.Grammar.Outcome.{ok}
 use Rattle.fields.specs.Run.{Ran}
@@ -45,16 +45,16 @@ module _ {s counts : List ℕ} {r : Opening} {m n k : ℕ} (h : BookOpened s r c
       }
 
 -- the arities of a book that was read
-book-arities : (s : List ℕ) (b : RuleBook) (d : Cursor) → outcome (from s []) a-book (start false) ≡ ok b d
+book-arities : (s : List ℕ) (b : RuleBook) (d : Walker) → outcome (source s []) a-book (start false) ≡ ok b d
     → (λ f. arityAt s [] false f) ≡ arity-in (b .arities)
 unfolding a-book outcome
 book-arities s b d e =
-    let x = bind-parts (from s []) a-signature _ (start false) e in
-    let y = bind-parts (from s []) (a-rule-list (arity-in (x .tree))) _ (x .between) (x .second) in
-    arity-known s [] false [] [] (x .tree) _ (run-ok (from s []) a-signature (start false) [] [] (x .first))
+    let x = bind-parts (source s []) a-signature _ (start false) e in
+    let y = bind-parts (source s []) (a-rule-list (arity-in (x .tree))) _ (x .between) (x .second) in
+    arity-known s [] false [] [] (x .tree) _ (run-ok (source s []) a-signature (start false) [] [] (x .first))
     ∙ ap (λ (c : RuleBook). arity-in (c .arities)) (same (x .tree) (y .second))
   where
-    same : (ars : List ℕ) {rs : _} {c : Cursor} → ok (record { arities = ars; rules = rs }) c ≡ ok b d
+    same : (ars : List ℕ) {rs : _} {c : Walker} → ok (record { arities = ars; rules = rs }) c ≡ ok b d
         → record { arities = ars; rules = rs } ≡ b
     same ars q = cc
 
@@ -78,7 +78,7 @@ module _ (book l counts : List ℕ) (h : Beside book counts) where
       rw (h .counted) (omega arith)
 
   -- so the code walks the certificate's own grammar
-  pub beside-ran : {src : Source} {c : Cursor} {ws bs ws₁ bs₁ : List ℕ} {r : Walk}
+  pub beside-ran : {src : Source} {c : Walker} {ws bs ws₁ bs₁ : List ℕ} {r : Walk}
       → Ran src (a-certificate (λ f. arityAt book l false f) counts) c ws bs nothing r ws₁ bs₁
       → Ran src (certificate-of (h .tree)) c ws bs nothing r ws₁ bs₁
   unfolding certificate-of

@@ -12,14 +12,14 @@ use lib.Dec.{eqb}
 use Rattle.answers.specs.Carried.{refusal-at}
 use Rattle.bits.specs.Bits.{Bytes}
 use Rattle.bits.specs.Packed.{width, packed}
-use Rattle.patterns.specs.Refusal.{Refusal, book-place, certificate-place}
-use Rattle.fields.specs.declared.Cursor.{Cursor}
-use Rattle.fields.specs.Source.{from, start}
+use Rattle.patterns.specs.Reason.{Reason, book-place, certificate-place}
+use Rattle.fields.specs.declared.Walker.{Walker}
+use Rattle.fields.specs.Source.{source, start}
 use Rattle.fields.specs.Grammar.{Grammar, done, Outcome, outcome, trace}
 use Rattle.fields.specs.Faults.{Reached, Fault, Listed, ListFault}
 use Rattle.fields.proofs.Ways.{way-to}
 use Rattle.fields.proofs.Binds.{after, end-ok}
-use Rattle.fields.proofs.Found.{Found, trace-sized, trace-reads, trace-room, trace-listed, trace-within}
+use Rattle.fields.proofs.Reading.{Reading, trace-sized, trace-reads, trace-room, trace-listed, trace-within}
 use Rattle.fields.proofs.Leads.{way-leads, led-trace}
 use Rattle.fields.proofs.Faults.{Short, stopped-fault, fault-stops, reached-gives, reached-outcome}
 use Rattle.fields.proofs.ListFaults.{Countable, stopped-list-fault, list-fault-stops, listed-outcome}
@@ -32,17 +32,17 @@ use Rattle.layout.proofs.RoundTrips.{bytes-packed, packed-opens}
 -- ---- bytes
 
 module _ {A : Type 0} (w : ℕ) (p : Grammar A) (s : List ℕ) (short : Short s) where
-  unclosed : (a : A) (d : Cursor) → outcome (from s []) p (start false) ≡ Outcome.ok a d → ends-at s (d .bit) ≡ false
+  unclosed : (a : A) (d : Walker) → outcome (source s []) p (start false) ≡ Outcome.ok a d → ends-at s (d .bit) ≡ false
       → open-bytes w p s ≡ bad (refusal-at 7 w (d .bit))
   unfolding open-bytes
   unclosed a d e f = rw (e, f)
 
   -- behind a good run, an end that is not as it should be
-  unended : (a : A) (d : Cursor) → outcome (from s []) p (start false) ≡ Outcome.ok a d → ends-at s (d .bit) ≡ false → Fault s p 7 (d .bit)
+  unended : (a : A) (d : Walker) → outcome (source s []) p (start false) ≡ Outcome.ok a d → ends-at s (d .bit) ≡ false → Fault s p 7 (d .bit)
   unended a d e f =
-      let fs = trace (from s []) p (start false) in
-      let q : d ≡ after (start false) fs = end-ok (from s []) p (start false) e in
-      let b : d .bit ≡ 0 + width fs = ap (λ (c : Cursor). c .bit) q in
+      let fs = trace (source s []) p (start false) in
+      let q : d ≡ after (start false) fs = end-ok (source s []) p (start false) e in
+      let b : d .bit ≡ 0 + width fs = ap (λ (c : Walker). c .bit) q in
       let l = trace-room s [] p (start false) refl (omega arith) in
       Fault.left-over
       (record {
@@ -55,25 +55,25 @@ module _ {A : Type 0} (w : ℕ) (p : Grammar A) (s : List ℕ) (short : Short s)
       (λ h. never fs refl q h)
       refl
     where
-      never : (fs : List (ℕ × ℕ)) → trace (from s []) p (start false) ≡ fs → d ≡ after (start false) fs → s ≡ packed fs → ⊥
+      never : (fs : List (ℕ × ℕ)) → trace (source s []) p (start false) ≡ fs → d ≡ after (start false) fs → s ≡ packed fs → ⊥
       never fs t q h =
           let g : open-bytes w p s ≡ good a fs =
           subst (λ x. open-bytes w p x ≡ good a fs) (sym h)
-          (packed-opens w w p (subst (λ x. Found (from x []) p (start false) a fs) h (record { ends = e ∙ ap (Outcome.ok a) q; passes = t }))) in
+          (packed-opens w w p (subst (λ x. Reading (source x []) p (start false) a fs) h (record { ends = e ∙ ap (Outcome.ok a) q; passes = t }))) in
           let c = unclosed a d e f in
           let z : _≡_ {A = ℕ} 0 1 = cc in
           omega arith
 
-  pub bytes-refused : (r : Refusal) → open-bytes w p s ≡ bad r → Faulty (Fault s p) w r
+  pub bytes-refused : (r : Reason) → open-bytes w p s ≡ bad r → Faulty (Fault s p) w r
   unfolding open-bytes
-  bytes-refused r = go (outcome (from s []) p (start false)) refl
+  bytes-refused r = go (outcome (source s []) p (start false)) refl
     where
-      under : (a : A) (d : Cursor) → outcome (from s []) p (start false) ≡ Outcome.ok a d → (b : Bool) → ends-at s (d .bit) ≡ b
-          → cond b (good a (trace (from s []) p (start false))) (bad (refusal-at 7 w (d .bit))) ≡ bad r → Faulty (Fault s p) w r
+      under : (a : A) (d : Walker) → outcome (source s []) p (start false) ≡ Outcome.ok a d → (b : Bool) → ends-at s (d .bit) ≡ b
+          → cond b (good a (trace (source s []) p (start false))) (bad (refusal-at 7 w (d .bit))) ≡ bad r → Faulty (Fault s p) w r
       under a d e true f q = let z : _≡_ {A = ℕ} 0 1 = cc q in absurd (omega arith)
       under a d e false f q = record { number = 7; place = d .bit; why = unended a d e f; told = cc q }
 
-      go : (o : Outcome A) → outcome (from s []) p (start false) ≡ o → closed-bytes w s o (trace (from s []) p (start false)) ≡ bad r
+      go : (o : Outcome A) → outcome (source s []) p (start false) ≡ o → closed-bytes w s o (trace (source s []) p (start false)) ≡ bad r
           → Faulty (Fault s p) w r
       go (Outcome.ok a d) e q = under a d e (ends-at s (d .bit)) refl q
       go (Outcome.no m d) e q = record { number = m; place = d .bit; why = stopped-fault s p short e; told = cc q }
@@ -85,12 +85,12 @@ module _ {A : Type 0} (w : ℕ) (p : Grammar A) (s : List ℕ) (short : Short s)
       padded : {a : A} (at : Reached s p place (done a)) → s ≢ packed (at .fields) → m ≡ 7 → open-bytes w p s ≡ bad (refusal-at m w place)
       padded {a} at h e = under (ends-at s (after (start false) (at .fields) .bit)) refl
         where
-          opens : outcome (from s []) p (start false) ≡ Outcome.ok a (after (start false) (at .fields))
+          opens : outcome (source s []) p (start false) ≡ Outcome.ok a (after (start false) (at .fields))
           opens = reached-outcome s p short place at ∙ unfold outcome in refl
 
           under : (b : Bool) → ends-at s (after (start false) (at .fields) .bit) ≡ b → open-bytes w p s ≡ bad (refusal-at m w place)
           under true f =
-              let t = led-trace (from s []) (start false) (at .led) (reached-gives s p short place at) (unfold trace in refl) in
+              let t = led-trace (source s []) (start false) (at .led) (reached-gives s p short place at) (unfold trace in refl) in
               let g : open-bytes w p s ≡ good a (at .fields) = rw (opens, f, t) in
               absurd (h (bytes-packed w w p s bytes g))
           under false f =
@@ -110,10 +110,10 @@ module _ {A : Type 0} (w : ℕ) (p : Grammar A) (s : List ℕ) (short : Short s)
 
 module _ {A : Type 0} (w : ℕ) (p : Grammar A) (short : Countable p) (l : List ℕ) where
   -- behind a good run, fields that are left over
-  unlisted : (a : A) (d : Cursor) → outcome (from [] l) p (start true) ≡ Outcome.ok a d → d .n ≢ length l → ListFault l p 7 (d .n)
+  unlisted : (a : A) (d : Walker) → outcome (source [] l) p (start true) ≡ Outcome.ok a d → d .n ≢ length l → ListFault l p 7 (d .n)
   unlisted a d e f =
-      let fs = trace (from [] l) p (start true) in
-      let n : d .n ≡ length fs = ap (λ (c : Cursor). c .n) (end-ok (from [] l) p (start true) e) ∙ omega arith in
+      let fs = trace (source [] l) p (start true) in
+      let n : d .n ≡ length fs = ap (λ (c : Walker). c .n) (end-ok (source [] l) p (start true) e) ∙ omega arith in
       let j = trace-within [] l p (start true) refl (omega arith) in
       ListFault.left-over
       (record {
@@ -125,17 +125,17 @@ module _ {A : Type 0} (w : ℕ) (p : Grammar A) (short : Countable p) (l : List 
       (omega arith)
       refl
 
-  pub list-refused : (r : Refusal) → open-list w p l ≡ bad r → Faulty (ListFault l p) w r
+  pub list-refused : (r : Reason) → open-list w p l ≡ bad r → Faulty (ListFault l p) w r
   unfolding open-list
-  list-refused r = go (outcome (from [] l) p (start true)) refl
+  list-refused r = go (outcome (source [] l) p (start true)) refl
     where
-      under : (a : A) (d : Cursor) → outcome (from [] l) p (start true) ≡ Outcome.ok a d → (b : Bool) → eqb (d .n) (length l) ≡ b
-          → cond b (good a (trace (from [] l) p (start true))) (bad (refusal-at 7 w (d .n))) ≡ bad r → Faulty (ListFault l p) w r
+      under : (a : A) (d : Walker) → outcome (source [] l) p (start true) ≡ Outcome.ok a d → (b : Bool) → eqb (d .n) (length l) ≡ b
+          → cond b (good a (trace (source [] l) p (start true))) (bad (refusal-at 7 w (d .n))) ≡ bad r → Faulty (ListFault l p) w r
       under a d e true f q = let z : _≡_ {A = ℕ} 0 1 = cc q in absurd (omega arith)
       under a d e false f q =
           record { number = 7; place = d .n; why = unlisted a d e (eqb-false (d .n) (length l) f); told = cc q }
 
-      go : (o : Outcome A) → outcome (from [] l) p (start true) ≡ o → closed-list w l o (trace (from [] l) p (start true)) ≡ bad r
+      go : (o : Outcome A) → outcome (source [] l) p (start true) ≡ o → closed-list w l o (trace (source [] l) p (start true)) ≡ bad r
           → Faulty (ListFault l p) w r
       go (Outcome.ok a d) e q = under a d e (eqb (d .n) (length l)) refl q
       go (Outcome.no m d) e q = record { number = m; place = d .n; why = stopped-list-fault l p short e; told = cc q }
@@ -148,7 +148,7 @@ module _ {A : Type 0} (w : ℕ) (p : Grammar A) (short : Countable p) (l : List 
       over {a} at h e =
           let i = at .ends in
           let q : after (start true) (at .fields) .n ≡ place = omega arith in
-          let opens : outcome (from [] l) p (start true) ≡ Outcome.ok a (after (start true) (at .fields)) =
+          let opens : outcome (source [] l) p (start true) ≡ Outcome.ok a (after (start true) (at .fields)) =
           listed-outcome l p short place at ∙ unfold outcome in refl in
           rw (opens, q, ne-eqb place (length l) (λ z. omega arith), e)
 
@@ -165,14 +165,14 @@ module _ {A : Type 0} (w : ℕ) (p : Grammar A) (short : Countable p) (l : List 
 
 -- a file in bytes is refused exactly with its first fault
 pub bytes-first-fault : {A : Type 0} (w : ℕ) (p : Grammar A) (s : List ℕ) → Bytes s → length s ≤ 32768
-    → (r : Refusal) → (open-bytes w p s ≡ bad r) ↔ Faulty (Fault s p) w r
+    → (r : Reason) → (open-bytes w p s ≡ bad r) ↔ Faulty (Fault s p) w r
 bytes-first-fault w p s bytes n r = (
   bytes-refused w p s (omega arith) r,
   λ f. fault-refused w p s (omega arith) bytes (f .number) (f .place) (f .why) ∙ ap bad (sym (f .told)),
 )
 
 -- so is a list of fields, however long, by a grammar whose bits can be counted
-pub list-first-fault : {A : Type 0} (w : ℕ) (p : Grammar A) → Countable p → (l : List ℕ) (r : Refusal)
+pub list-first-fault : {A : Type 0} (w : ℕ) (p : Grammar A) → Countable p → (l : List ℕ) (r : Reason)
     → (open-list w p l ≡ bad r) ↔ Faulty (ListFault l p) w r
 list-first-fault w p short l r = (
   list-refused w p short l r,
@@ -180,11 +180,11 @@ list-first-fault w p short l r = (
 )
 
 -- the grammars of both files are such
-pub book-list-first-fault : (l : List ℕ) (r : Refusal)
+pub book-list-first-fault : (l : List ℕ) (r : Reason)
     → (open-list book-place a-book l ≡ bad r) ↔ Faulty (ListFault l a-book) book-place r
 book-list-first-fault = list-first-fault book-place a-book book-countable
 
-pub certificate-list-first-fault : (b : RuleBook) (l : List ℕ) (r : Refusal)
+pub certificate-list-first-fault : (b : RuleBook) (l : List ℕ) (r : Reason)
     → (open-list certificate-place (certificate-of b) l ≡ bad r) ↔ Faulty (ListFault l (certificate-of b)) certificate-place r
 unfolding certificate-of
 certificate-list-first-fault b = list-first-fault certificate-place (certificate-of b) (certificate-countable _ _)

@@ -11,13 +11,13 @@ use Rattle.answers.specs.Numbers.{w-of}
 use Rattle.bits.specs.Written.{Narrow}
 use Rattle.bits.specs.Packed.{bytesFor, packed}
 use Rattle.bits.proofs.PackedFields.{length-packed}
-use Rattle.patterns.specs.Refusal.{Refusal, book-place, certificate-place}
+use Rattle.patterns.specs.Reason.{Reason, book-place, certificate-place}
 use Rattle.fields.specs.declared.Walk.{Walk}
-use Rattle.fields.specs.Source.{from, start}
+use Rattle.fields.specs.Source.{source, start}
 use Rattle.fields.specs.Grammar.{Grammar}
 use Rattle.fields.specs.Run.{Ran}
 use Rattle.fields.proofs.Sinks.{values, sets, puts, sets-first, puts-first}
-use Rattle.fields.proofs.Found.{trace-narrow}
+use Rattle.fields.proofs.Reading.{trace-narrow}
 use Rattle.grammar.specs.Certificates.{a-certificate}
 use Rattle.terms.specs.Arity.{arityAt}
 use Rattle.terms.specs.Values.{nothing}
@@ -26,9 +26,9 @@ use Rattle.layout.specs.declared.Opening.{Opening}
 use Rattle.answers.specs.declared.W.{W}
 use Rattle.answers.specs.declared.W.the-variants.{Certificate}
 use Rattle.layout.specs.Openings.{sight, seen, seen-bytes, seen-list, CertificateOpened, Beside}
-use Rattle.layout.specs.Answers.{Given, gives, refuses, listed, written, reading-book, listing-beside, writing-beside, reading-certificate, writing-certificate}
+use Rattle.layout.specs.Answers.{Given, gives, refuses, listed, packed-given, reading-book, listing-beside, writing-beside, reading-certificate, writing-certificate}
 use Rattle.layout.proofs.FileEnds.{words-after, bytes-after, bytes-seen, list-seen}
-use Rattle.layout.proofs.Answering.{Good}
+use Rattle.layout.proofs.Answering.{GoodFile}
 use Rattle.layout.proofs.Opens.{InBytes, InList}
 use Rattle.layout.proofs.Besides.{beside-ran}
 
@@ -54,7 +54,7 @@ module _ (s : List ℕ) where
 
 -- ---- a good file: what is listed of it, or packed
 
-module _ {A : Type 0} {val : A → ℕ} {x : Opened A} {v n k : ℕ} (g : Good val x v n k) where
+module _ {A : Type 0} {val : A → ℕ} {x : Opened A} {v n k : ℕ} (g : GoodFile val x v n k) where
   pub good-listed : listed x ≡ gives (values (g .fields))
   good-listed = ap listed (g .is)
 
@@ -65,33 +65,33 @@ module _ {A : Type 0} {val : A → ℕ} {x : Opened A} {v n k : ℕ} (g : Good v
   good-bytes = length-packed (g .fields) ∙ ap bytesFor (g .wide)
 
   module _ (w most : ℕ) where
-    pub good-over : most < bytesFor k → written w most x ≡ refuses (refusal-at 2 w 0)
+    pub good-over : most < bytesFor k → packed-given w most x ≡ refuses (refusal-at 2 w 0)
     good-over h =
-        ap (written w most) (g .is)
+        ap (packed-given w most) (g .is)
         ∙ rw (lt-ltb most (length (packed (g .fields))) (subst (λ j. most < j) (sym good-bytes) h))
 
-    pub good-written : bytesFor k ≤ most → written w most x ≡ gives (packed (g .fields))
+    pub good-written : bytesFor k ≤ most → packed-given w most x ≡ gives (packed (g .fields))
     good-written h =
-        ap (written w most) (g .is)
+        ap (packed-given w most) (g .is)
         ∙ rw (le-ltb most (length (packed (g .fields))) (subst (λ j. j ≤ most) (sym good-bytes) h))
 
-pub bad-listed : {A : Type 0} (x : Opened A) {r : Refusal} → x ≡ bad r → listed x ≡ refuses r
+pub bad-listed : {A : Type 0} (x : Opened A) {r : Reason} → x ≡ bad r → listed x ≡ refuses r
 bad-listed x e = ap listed e
 
-pub bad-written : {A : Type 0} (w most : ℕ) (x : Opened A) {r : Refusal} → x ≡ bad r → written w most x ≡ refuses r
-bad-written w most x e = ap (written w most) e
+pub bad-written : {A : Type 0} (w most : ℕ) (x : Opened A) {r : Reason} → x ≡ bad r → packed-given w most x ≡ refuses r
+bad-written w most x e = ap (packed-given w most) e
 
 -- ---- the outputs after the second walk
 
 module _ {A : Type 0} (p : Grammar A) {val : A → ℕ} {r : Walk} {a : A} {fs : List (ℕ × ℕ)} where
-  pub listed-after : {s out bs out₁ bs₁ : List ℕ} → InBytes p s a fs → Ran (from s []) p (start false) out bs val r out₁ bs₁
+  pub listed-after : {s out bs out₁ bs₁ : List ℕ} → InBytes p s a fs → Ran (source s []) p (start false) out bs val r out₁ bs₁
       → length (values fs) ≤ length out → out₁ ≡ values fs ++ drop (length (values fs)) out
   listed-after {s} {out} x h k =
       let e : length (values fs) ≡ length fs = length-map fs _ in
       words-after s [] h ∙ ap (λ gs. sets out 0 gs) (x .fields) ∙ sets-first out fs (omega arith)
       ∙ ap (λ n. values fs ++ drop n out) (sym e)
 
-  pub packed-after : {l out ws out₁ ws₁ : List ℕ} → InList p l a fs → Ran (from [] l) p (start true) ws out val r ws₁ out₁
+  pub packed-after : {l out ws out₁ ws₁ : List ℕ} → InList p l a fs → Ran (source [] l) p (start true) ws out val r ws₁ out₁
       → length (packed fs) ≤ length out → length (packed fs) ≤ 32768 → out₁ ≡ packed fs ++ drop (length (packed fs)) out
   packed-after {l} {out} x h k small =
       let e = length-packed fs in
@@ -101,12 +101,12 @@ module _ {A : Type 0} (p : Grammar A) {val : A → ℕ} {r : Walk} {a : A} {fs :
 -- ---- a book written
 
 pub list-told : {A : Type 0} (l : List ℕ) (p : Grammar A) (val : A → ℕ) {ws bs ws₁ bs₁ : List ℕ} {w : Walk} (o : Opening) (place : W)
-    → Ran (from [] l) p (start true) ws bs val w ws₁ bs₁ → sight o ≡ seen-list (w-of place) l w
+    → Ran (source [] l) p (start true) ws bs val w ws₁ bs₁ → sight o ≡ seen-list (w-of place) l w
     → sight o ≡ seen val (open-list (w-of place) p l)
 list-told l p val o place h e = e ∙ list-seen l p val h (w-of place)
 
 pub bytes-told : {A : Type 0} (s : List ℕ) (p : Grammar A) (val : A → ℕ) {ws bs ws₁ bs₁ : List ℕ} {w : Walk} (o : Opening) (place : W)
-    → Ran (from s []) p (start false) ws bs val w ws₁ bs₁ → sight o ≡ seen-bytes (w-of place) s w
+    → Ran (source s []) p (start false) ws bs val w ws₁ bs₁ → sight o ≡ seen-bytes (w-of place) s w
     → sight o ≡ seen val (open-bytes (w-of place) p s)
 bytes-told s p val o place h e = e ∙ bytes-seen s p val h (w-of place)
 
@@ -114,14 +114,14 @@ bytes-told s p val o place h e = e ∙ bytes-seen s p val h (w-of place)
 
 module _ (book counts : List ℕ) (h : Beside book counts) where
   pub writing-is : (l : List ℕ)
-      → writing-beside book l ≡ written certificate-place 32768 (open-list certificate-place (certificate-of (h .tree)) l)
+      → writing-beside book l ≡ packed-given certificate-place 32768 (open-list certificate-place (certificate-of (h .tree)) l)
   unfolding writing-beside
   writing-is l =
-      ap (λ x. where-good refuses x λ b. written certificate-place 32768 (open-list certificate-place (certificate-of b) l)) (h .opened)
+      ap (λ x. where-good refuses x λ b. packed-given certificate-place 32768 (open-list certificate-place (certificate-of b) l)) (h .opened)
 
   -- the first walk over it
   pub certificate-opened : {s ws bs ws₁ bs₁ : List ℕ} {x : Walk} (o : Opening)
-      → Ran (from s []) (a-certificate (λ f. arityAt book [] false f) counts) (start false) ws bs nothing x ws₁ bs₁
+      → Ran (source s []) (a-certificate (λ f. arityAt book [] false f) counts) (start false) ws bs nothing x ws₁ bs₁
       → sight o ≡ seen-bytes (w-of Certificate) s x → CertificateOpened book s o
   unfolding open-certificate w-of
   certificate-opened {s} o k e = record {
@@ -160,11 +160,11 @@ module _ (book s : List ℕ) where
   certificate-written h = not-too-long book-place 16384 book _ h
 
   -- a bad book refuses both
-  pub listing-bad : {r : Refusal} → open-book book ≡ bad r → listing-beside book s ≡ refuses r
+  pub listing-bad : {r : Reason} → open-book book ≡ bad r → listing-beside book s ≡ refuses r
   unfolding listing-beside
   listing-bad e = ap (λ x. where-good refuses x λ b. listed (open-certificate b s)) e
 
-  pub writing-bad : {r : Refusal} → open-book book ≡ bad r → writing-beside book s ≡ refuses r
+  pub writing-bad : {r : Reason} → open-book book ≡ bad r → writing-beside book s ≡ refuses r
   unfolding writing-beside
   writing-bad e =
-      ap (λ x. where-good refuses x λ b. written certificate-place 32768 (open-list certificate-place (certificate-of b) s)) e
+      ap (λ x. where-good refuses x λ b. packed-given certificate-place 32768 (open-list certificate-place (certificate-of b) s)) e

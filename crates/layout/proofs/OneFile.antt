@@ -9,13 +9,13 @@ use Rattle.fields.specs.Source.{start}
 use Rattle.bits.specs.Bits.{Bytes}
 use Rattle.bits.specs.Packed.{packed, Reads}
 use Rattle.bits.proofs.PackedFields.{length-packed, packed-reads}
-use Rattle.patterns.specs.Refusal.{book-place, certificate-place}
+use Rattle.patterns.specs.Reason.{book-place, certificate-place}
 use Rattle.patterns.specs.First.{Exp, Pair, Pace}
 use Rattle.patterns.specs.Certificate.{Certificate}
 use Rattle.fields.specs.Grammar.{Grammar}
 use Rattle.fields.specs.Spells.{Spells}
 use Rattle.fields.proofs.Spelled.{spells-sized, spells-narrow, spells-few}
-use Rattle.fields.proofs.Found.{trace-spells, bytes-found}
+use Rattle.fields.proofs.Reading.{trace-spells, bytes-found}
 use Rattle.grammar.specs.Books.{RuleBook, a-book}
 use Rattle.grammar.specs.Limits.{BookFits, CertificateFits}
 use Rattle.grammar.specs.Listing.{book-fields, certificate-fields}

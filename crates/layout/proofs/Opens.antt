@@ -10,15 +10,15 @@ use lib.Seq.{take-at}
 use lib.Dec.{eqb}
 use Rattle.answers.specs.Carried.{refusal-at}
 use Rattle.answers.specs.Numbers.{w-of}
-use Rattle.patterns.specs.Refusal.{book-place}
-use Rattle.fields.specs.declared.Cursor.{Cursor}
+use Rattle.patterns.specs.Reason.{book-place}
+use Rattle.fields.specs.declared.Walker.{Walker}
 use Rattle.fields.specs.declared.Walk.{Walk}
-use Rattle.fields.specs.Source.{from, start}
+use Rattle.fields.specs.Source.{source, start}
 use Rattle.fields.specs.Grammar.{Grammar, Outcome, outcome, trace}
 use Rattle.fields.specs.Grammar.Outcome.{ok, no}
 use Rattle.fields.specs.Run.{state, Ran}
 use Rattle.fields.proofs.Sinks.{values, sets, sets-first, run-ok}
-use Rattle.fields.proofs.Found.{trace-spells}
+use Rattle.fields.proofs.Reading.{trace-spells}
 use Rattle.grammar.specs.Books.{RuleBook, a-book}
 use Rattle.grammar.specs.Limits.{BookFits, call-counts}
 use Rattle.grammar.proofs.BookFields.{book-exactly}
@@ -32,45 +32,45 @@ use Rattle.layout.proofs.FileEnds.{bytes-seen}
 -- ---- a good file in bytes, and one in a list
 
 pub record InBytes {A : Type 0} (p : Grammar A) (s : List ℕ) (a : A) (fs : List (ℕ × ℕ)) : Type 0 where
-  pub end : Cursor
-  pub found : outcome (from s []) p (start false) ≡ ok a end
-  pub fields : trace (from s []) p (start false) ≡ fs
+  pub end : Walker
+  pub found : outcome (source s []) p (start false) ≡ ok a end
+  pub fields : trace (source s []) p (start false) ≡ fs
   pub ends : ends-at s (end .bit) ≡ true
 
 pub in-bytes : {A : Type 0} (w : ℕ) (p : Grammar A) (s : List ℕ) {a : A} {fs : List (ℕ × ℕ)} → open-bytes w p s ≡ good a fs
     → InBytes p s a fs
 unfolding open-bytes
-in-bytes w p s {a} {fs} = go (outcome (from s []) p (start false)) refl
+in-bytes w p s {a} {fs} = go (outcome (source s []) p (start false)) refl
   where
-    under : (d : Cursor) (b : _) → outcome (from s []) p (start false) ≡ ok b d → (e : Bool) → ends-at s (d .bit) ≡ e
-        → cond e (good b (trace (from s []) p (start false))) (bad (refusal-at 7 w (d .bit))) ≡ good a fs → InBytes p s a fs
+    under : (d : Walker) (b : _) → outcome (source s []) p (start false) ≡ ok b d → (e : Bool) → ends-at s (d .bit) ≡ e
+        → cond e (good b (trace (source s []) p (start false))) (bad (refusal-at 7 w (d .bit))) ≡ good a fs → InBytes p s a fs
     under d b q true t h = record { end = d; found = q ∙ ap (λ x. ok x d) (cc h); fields = cc h; ends = t }
     under d b q false t h = let z : _≡_ {A = ℕ} 0 1 = cc h in absurd (omega arith)
 
-    go : (o : Outcome _) → outcome (from s []) p (start false) ≡ o
-        → closed-bytes w s o (trace (from s []) p (start false)) ≡ good a fs → InBytes p s a fs
+    go : (o : Outcome _) → outcome (source s []) p (start false) ≡ o
+        → closed-bytes w s o (trace (source s []) p (start false)) ≡ good a fs → InBytes p s a fs
     go (ok b d) q h = under d b q (ends-at s (d .bit)) refl h
     go (no m d) q h = let z : _≡_ {A = ℕ} 0 1 = cc h in absurd (omega arith)
 
 pub record InList {A : Type 0} (p : Grammar A) (l : List ℕ) (a : A) (fs : List (ℕ × ℕ)) : Type 0 where
-  pub end : Cursor
-  pub found : outcome (from [] l) p (start true) ≡ ok a end
-  pub fields : trace (from [] l) p (start true) ≡ fs
+  pub end : Walker
+  pub found : outcome (source [] l) p (start true) ≡ ok a end
+  pub fields : trace (source [] l) p (start true) ≡ fs
   pub all : end .n ≡ length l
 
 pub in-list : {A : Type 0} (w : ℕ) (p : Grammar A) (l : List ℕ) {a : A} {fs : List (ℕ × ℕ)} → open-list w p l ≡ good a fs
     → InList p l a fs
 unfolding open-list
-in-list w p l {a} {fs} = go (outcome (from [] l) p (start true)) refl
+in-list w p l {a} {fs} = go (outcome (source [] l) p (start true)) refl
   where
-    under : (d : Cursor) (b : _) → outcome (from [] l) p (start true) ≡ ok b d → (e : Bool) → eqb (d .n) (length l) ≡ e
-        → cond e (good b (trace (from [] l) p (start true))) (bad (refusal-at 7 w (d .n))) ≡ good a fs → InList p l a fs
+    under : (d : Walker) (b : _) → outcome (source [] l) p (start true) ≡ ok b d → (e : Bool) → eqb (d .n) (length l) ≡ e
+        → cond e (good b (trace (source [] l) p (start true))) (bad (refusal-at 7 w (d .n))) ≡ good a fs → InList p l a fs
     under d b q true t h =
         record { end = d; found = q ∙ ap (λ x. ok x d) (cc h); fields = cc h; all = eqb-true (d .n) (length l) t }
     under d b q false t h = let z : _≡_ {A = ℕ} 0 1 = cc h in absurd (omega arith)
 
-    go : (o : Outcome _) → outcome (from [] l) p (start true) ≡ o
-        → closed-list w l o (trace (from [] l) p (start true)) ≡ good a fs → InList p l a fs
+    go : (o : Outcome _) → outcome (source [] l) p (start true) ≡ o
+        → closed-list w l o (trace (source [] l) p (start true)) ≡ good a fs → InList p l a fs
     go (ok b d) q h = under d b q (eqb (d .n) (length l)) refl h
     go (no m d) q h = let z : _≡_ {A = ℕ} 0 1 = cc h in absurd (omega arith)
 
@@ -102,8 +102,8 @@ book-fits s {b} e =
     (book-exactly b _ .0 (trace-spells s [] a-book (start false) (h .found))) .0
 
 pub book-opened : (s : List ℕ) {w : Walk} {ws bs ws₁ bs₁ cs cs₁ : List ℕ} {r : Opening}
-    → Ran (from s []) a-book (start false) ws bs ruleCount w ws₁ bs₁
-    → CountedBook (from s []) (state (start false) ws bs) cs cs₁ → 256 ≤ length cs
+    → Ran (source s []) a-book (start false) ws bs ruleCount w ws₁ bs₁
+    → CountedBook (source s []) (state (start false) ws bs) cs cs₁ → 256 ≤ length cs
     → sight r ≡ seen-bytes (w-of Book) s w → BookOpened s r cs₁
 unfolding w-of
 book-opened s {w} {ws} {bs} {ws₁} {bs₁} {cs} {cs₁} h k room e = record {
@@ -118,6 +118,6 @@ book-opened s {w} {ws} {bs} {ws₁} {bs₁} {cs} {cs₁} h k room e = record {
         let f = book-fits s q in
         let n : length (call-counts (b .rules)) ≡ length (b .rules) = unfold call-counts in length-map (b .rules) _ in
         let m = f .count in
-        ap (take (length (b .rules))) (k .all b _ (run-ok (from s []) a-book (start false) ws bs (x .found)))
+        ap (take (length (b .rules))) (k .all b _ (run-ok (source s []) a-book (start false) ws bs (x .found)))
         ∙ ap (λ j. take j (noted cs 0 (call-counts (b .rules)))) (sym n)
         ∙ noted-first cs (call-counts (b .rules)) (omega arith)

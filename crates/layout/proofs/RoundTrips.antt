@@ -11,17 +11,17 @@ use Rattle.answers.specs.Carried.{refusal-at}
 use Rattle.bits.specs.Bits.{Bytes, bitsAt}
 use Rattle.bits.specs.Packed.{width, bytesFor, packed}
 use Rattle.bits.proofs.PackedFields.{length-packed, padding-reads}
-use Rattle.patterns.specs.Refusal.{book-place, certificate-place}
+use Rattle.patterns.specs.Reason.{book-place, certificate-place}
 use Rattle.patterns.specs.First.{Exp, Pair, Pace}
 use Rattle.patterns.specs.Certificate.{Certificate}
-use Rattle.fields.specs.Source.{from, start}
+use Rattle.fields.specs.Source.{source, start}
 use Rattle.fields.specs.Grammar.{Grammar}
 use Rattle.fields.proofs.Sinks.{values}
-use Rattle.fields.proofs.Found.{Found}
+use Rattle.fields.proofs.Reading.{Reading}
 use Rattle.fields.proofs.Trips.{read-packed-field, read-trip, written-whole, write-trip}
 use Rattle.grammar.specs.Books.{RuleBook, a-book}
 use Rattle.layout.specs.Files.{within-length, where-good, Opened, good, bad, ends-at, open-bytes, open-list, certificate-of, open-book, open-certificate}
-use Rattle.layout.specs.Answers.{Given, gives, refuses, listed, written, reading-book, writing-book, listing-beside, writing-beside, reading-certificate, writing-certificate}
+use Rattle.layout.specs.Answers.{Given, gives, refuses, listed, packed-given, reading-book, writing-book, listing-beside, writing-beside, reading-certificate, writing-certificate}
 use Rattle.layout.proofs.Opens.{in-bytes, in-list}
 
 -- ---- one file, for every grammar
@@ -44,7 +44,7 @@ module _ {A : Type 0} (w v : ℕ) (p : Grammar A) {a : A} {fs : List (ℕ × ℕ
   unfolding open-list
   bytes-listed s e =
       let x = in-bytes w p s e in
-      let f = subst (λ gs. Found (from [] (values gs)) p (start true) a gs) (x .fields) (read-trip s [] p (x .found) []) in
+      let f = subst (λ gs. Reading (source [] (values gs)) p (start true) a gs) (x .fields) (read-trip s [] p (x .found) []) in
       let n : 0 + length fs ≡ length (values fs) = sym (length-map fs _ ∙ omega arith) in
       rw (f .ends, f .passes, eq-eqb (0 + length fs) (length (values fs)) n)
 
@@ -55,7 +55,7 @@ module _ {A : Type 0} (w v : ℕ) (p : Grammar A) {a : A} {fs : List (ℕ × ℕ
       subst (λ gs. values gs ≡ l) (x .fields) (written-whole [] l p (x .found) (x .all))
 
   -- fields that are found in their packed file make it a good file
-  pub packed-opens : Found (from (packed fs) []) p (start false) a fs → open-bytes v p (packed fs) ≡ good a fs
+  pub packed-opens : Reading (source (packed fs) []) p (start false) a fs → open-bytes v p (packed fs) ≡ good a fs
   unfolding open-bytes ends-at
   packed-opens f =
       let k = length-packed fs in
@@ -70,7 +70,7 @@ module _ {A : Type 0} (w v : ℕ) (p : Grammar A) {a : A} {fs : List (ℕ × ℕ
       let x = in-list w p l e in
       let k = length-packed fs in
       packed-opens
-      (subst (λ gs. width gs ≤ 2 ^ 32 → Found (from (packed gs) []) p (start false) a gs) (x .fields)
+      (subst (λ gs. width gs ≤ 2 ^ 32 → Reading (source (packed gs) []) p (start false) a gs) (x .fields)
       (λ h. write-trip [] l p (x .found) h []) (omega arith))
 
 -- ---- what was given, by what was opened
@@ -79,7 +79,7 @@ given-listed : {A : Type 0} (x : Opened A) {l : List ℕ} → listed x ≡ gives
 given-listed (good a fs) e = (a, fs, refl, cc)
 given-listed (bad r) e = let z : _≡_ {A = ℕ} 0 1 = cc in absurd (omega arith)
 
-given-written : {A : Type 0} (w most : ℕ) (x : Opened A) {s : List ℕ} → written w most x ≡ gives s
+given-written : {A : Type 0} (w most : ℕ) (x : Opened A) {s : List ℕ} → packed-given w most x ≡ gives s
     → (a : A) × (fs : List (ℕ × ℕ)) × (x ≡ good a fs) × (packed fs ≡ s) × (length (packed fs) ≤ most)
 given-written w most (good a fs) {s} e = go (ltb most (length (packed fs))) refl e
   where
@@ -113,7 +113,7 @@ book-read-written s l bytes e =
     let p = bytes-packed book-place book-place a-book s bytes (x .2) in
     let q = bytes-listed book-place book-place a-book s (x .2) in
     let k : length (packed (x .1)) ≤ 16384 = subst (λ t. length t ≤ 16384) p (h .0) in
-    subst (λ t. written book-place 16384 (open-list book-place a-book t) ≡ gives s) (x .3)
+    subst (λ t. packed-given book-place 16384 (open-list book-place a-book t) ≡ gives s) (x .3)
     (rw (q, le-ltb 16384 (length (packed (x .1))) k) (ap gives (sym p)))
 
 -- Fields written and the bytes read again give the same list.

@@ -7,7 +7,7 @@ use lib.Dec.{ltb}
 use Rattle.answers.specs.Carried.{refusal-at}
 use Rattle.answers.specs.Numbers.{Told, filled-with, refused-with}
 use Rattle.bits.specs.Packed.{packed}
-use Rattle.patterns.specs.Refusal.{Refusal, book-place, certificate-place}
+use Rattle.patterns.specs.Reason.{Reason, book-place, certificate-place}
 use Rattle.grammar.specs.Books.{a-book}
 use Rattle.layout.specs.Files.{Opened, good, bad, open-list, certificate-of, open-book, open-certificate, within-length, where-good}
 
@@ -15,7 +15,7 @@ use Rattle.layout.specs.Files.{Opened, good, bad, open-list, certificate
 
 pub data Given : Type 0 where
   gives : List ℕ → Given
-  refuses : Refusal → Given
+  refuses : Reason → Given
 
 -- 01: "Reading turns bytes into a list, writing turns a list into bytes."
 abbrev pub listed : {A : Type 0} → Opened A → Given
@@ -23,15 +23,15 @@ listed (good a fs) = gives (map (λ (f : ℕ × ℕ). f .1) fs)
 listed (bad r) = refuses r
 
 -- 01: "For the file being written, 2 stands after 7 and before 8."
-abbrev pub written : {A : Type 0} → ℕ → ℕ → Opened A → Given
-written w most (good a fs) = cond (ltb most (length (packed fs))) (refuses (refusal-at 2 w 0)) (gives (packed fs))
-written w most (bad r) = refuses r
+abbrev pub packed-given : {A : Type 0} → ℕ → ℕ → Opened A → Given
+packed-given w most (good a fs) = cond (ltb most (length (packed fs))) (refuses (refusal-at 2 w 0)) (gives (packed fs))
+packed-given w most (bad r) = refuses r
 
 unfoldable pub reading-book : List ℕ → Given
 reading-book s = within-length refuses book-place 16384 s (listed (open-book s))
 
 unfoldable pub writing-book : List ℕ → Given
-writing-book l = written book-place 16384 (open-list book-place a-book l)
+writing-book l = packed-given book-place 16384 (open-list book-place a-book l)
 
 -- the certificate beside a good book
 unfoldable pub listing-beside : List ℕ → List ℕ → Given
@@ -39,7 +39,7 @@ listing-beside book s = where-good refuses (open-book book) λ b. listed (open-c
 
 unfoldable pub writing-beside : List ℕ → List ℕ → Given
 writing-beside book l =
-    where-good refuses (open-book book) λ b. written certificate-place 32768 (open-list certificate-place (certificate-of b) l)
+    where-good refuses (open-book book) λ b. packed-given certificate-place 32768 (open-list certificate-place (certificate-of b) l)
 
 unfoldable pub reading-certificate : List ℕ → List ℕ → Given
 reading-certificate book s =

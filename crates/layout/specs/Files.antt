@@ -6,11 +6,11 @@ use lib.ListN.{length}
 use lib.Dec.{eqb, ltb}
 use Rattle.bits.specs.Bits.{bitsAt}
 use Rattle.bits.specs.Packed.{bytesFor}
-use Rattle.patterns.specs.Refusal.{Refusal, book-place, certificate-place}
+use Rattle.patterns.specs.Reason.{Reason, book-place, certificate-place}
 use Rattle.patterns.specs.First.{Exp, Pair, Pace}
 use Rattle.patterns.specs.Certificate.{Certificate}
 use Rattle.answers.specs.Carried.{refusal-at}
-use Rattle.fields.specs.Source.{from, start}
+use Rattle.fields.specs.Source.{source, start}
 use Rattle.fields.specs.Grammar.{Grammar, Outcome, outcome, trace}
 use Rattle.fields.specs.Grammar.Outcome.{ok, no}
 use Rattle.grammar.specs.Books.{RuleBook, arity-in, a-book}
@@ -20,7 +20,7 @@ use Rattle.grammar.specs.Limits.{call-counts}
 -- the tree with its fields, each a width and a value; or the refusal
 pub data Opened (A : Type 0) : Type 0 where
   good : A → List (ℕ × ℕ) → Opened A
-  bad : Refusal → Opened A
+  bad : Reason → Opened A
 
 -- 01: "After the last field come zero bits up to the next whole byte, and nothing more."
 unfoldable pub ends-at : List ℕ → ℕ → Bool
@@ -32,7 +32,7 @@ closed-bytes w s (ok a c) fs = cond (ends-at s (c .bit)) (good a fs) (bad (refus
 closed-bytes w s (no m c) fs = bad (refusal-at m w (c .bit))
 
 unfoldable pub open-bytes : {A : Type 0} → ℕ → Grammar A → List ℕ → Opened A
-open-bytes w p s = closed-bytes w s (outcome (from s []) p (start false)) (trace (from s []) p (start false))
+open-bytes w p s = closed-bytes w s (outcome (source s []) p (start false)) (trace (source s []) p (start false))
 
 -- 01: "in the file being written, the field's number from 0 instead"; 7: "bytes or fields are left over"
 abbrev pub closed-list : {A : Type 0} → ℕ → List ℕ → Outcome A → List (ℕ × ℕ) → Opened A
@@ -40,7 +40,7 @@ closed-list w l (ok a c) fs = cond (eqb (c .n) (length l)) (good a fs) (bad (ref
 closed-list w l (no m c) fs = bad (refusal-at m w (c .n))
 
 unfoldable pub open-list : {A : Type 0} → ℕ → Grammar A → List ℕ → Opened A
-open-list w p l = closed-list w l (outcome (from [] l) p (start true)) (trace (from [] l) p (start true))
+open-list w p l = closed-list w l (outcome (source [] l) p (start true)) (trace (source [] l) p (start true))
 
 -- the certificate's grammar, over its book
 unfoldable pub certificate-of : RuleBook → Grammar (Certificate Exp Pair Pace)
@@ -55,10 +55,10 @@ open-certificate b s = open-bytes certificate-place (certificate-of b) s
 -- ---- what is given of a file, where `refuse` says how a refusal is given
 
 -- 01, 2: "rule book over 16,384 bytes or certificate over 32,768, read or written"
-abbrev pub within-length : {B : Type 0} → (Refusal → B) → ℕ → ℕ → List ℕ → B → B
+abbrev pub within-length : {B : Type 0} → (Reason → B) → ℕ → ℕ → List ℕ → B → B
 within-length refuse w most s rest = cond (ltb most (length s)) (refuse (refusal-at 2 w 0)) rest
 
 -- a file's own refusal, or what its tree leads to
-abbrev pub where-good : {A B : Type 0} → (Refusal → B) → Opened A → (A → B) → B
+abbrev pub where-good : {A B : Type 0} → (Reason → B) → Opened A → (A → B) → B
 where-good refuse (good a fs) rest = rest a
 where-good refuse (bad r) rest = refuse r

@@ -2,10 +2,10 @@
 use Prim.Native.Nat.{ℕ}
 use mathlib.Core.Path.{_≡_}
 use Rattle.answers.specs.Carried.{refusal-at}
-use Rattle.patterns.specs.Refusal.{Refusal}
+use Rattle.patterns.specs.Reason.{Reason}
 
 -- `Why number place` is `Fault s p` for a file in bytes, and `ListFault l p` for a list of fields; w says which file it is
-pub record Faulty (Why : ℕ → ℕ → Type 0) (w : ℕ) (r : Refusal) : Type 0 where
+pub record Faulty (Why : ℕ → ℕ → Type 0) (w : ℕ) (r : Reason) : Type 0 where
   pub number : ℕ
   pub place : ℕ
   pub why : Why number place

@@ -8,7 +8,7 @@ use lib.Dec.{eqb}
 use Rattle.answers.specs.Carried.{refusal-at, carried}
 use Rattle.answers.specs.Numbers.{paper-refusal}
 use Rattle.bits.specs.Packed.{width}
-use Rattle.patterns.specs.Refusal.{Refusal}
+use Rattle.patterns.specs.Reason.{Reason}
 use Rattle.fields.specs.declared.Walk.{Walk}
 use Rattle.fields.specs.declared.Walk.the-variants.{On, No}
 use Rattle.grammar.specs.Books.{RuleBook}
@@ -21,7 +21,7 @@ use Rattle.layout.specs.Files.{Opened, good, bad, ends-at, open-book, op
 -- a number, the fields and the bits of a good file; or the refusal
 pub data Sight : Type 0 where
   sees : (value fields bits : ℕ) → Sight
-  shut : Refusal → Sight
+  shut : Reason → Sight
 
 unfoldable pub sight : Opening → Sight
 sight (Open v n w) = sees v n w
@@ -51,9 +51,9 @@ seen-list w l (On v c) = cond (eqb (c .n) (length l)) (sees v (c .n) (c .bit)) (
 seen-list w l (No m c) = shut (carried m w (c .n) 0)
 
 -- how far a walk went
-unfoldable pub bits-of : Walk → ℕ
-bits-of (On v c) = c .bit
-bits-of (No m c) = 0
+unfoldable pub walked-bits : Walk → ℕ
+walked-bits (On v c) = c .bit
+walked-bits (No m c) = 0
 
 -- a good book, and how many calls each of its rules has
 pub record Beside (book counts : List ℕ) : Type 0 where

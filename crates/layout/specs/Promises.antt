@@ -5,7 +5,7 @@ use mathlib.Core.List.{List}
 use lib.ListN.{length}
 use Rattle.answers.specs.Numbers.{paper-answer}
 use Rattle.bits.specs.Bits.{Bytes}
-use Rattle.patterns.specs.Refusal.{book-place, certificate-place}
+use Rattle.patterns.specs.Reason.{book-place, certificate-place}
 use Rattle.answers.specs.declared.Answer.{Answer}
 use Rattle.layout.specs.Answers.{Given, reading-book, writing-book, reading-certificate, writing-certificate, told, output}
 

@@ -7,10 +7,10 @@ ghost use mathlib.Core.Path.{_≡_};
 ghost use Prim.Native.Nat.{_≤_, _*_};
 ghost use lib.ListN.{length};
 ghost use Rattle.bits.specs.Packed.{bytesFor};
-ghost use Rattle.patterns.specs.Refusal.{certificate-place};
+ghost use Rattle.patterns.specs.Reason.{certificate-place};
 ghost use Rattle.answers.specs.Numbers.{w-of};
 ghost use Rattle.layout.specs.Files.{ends-at};
-ghost use Rattle.layout.specs.Openings.{bits-of, sight, seen-bytes, seen-list, BookOpened, CertificateOpened, Beside};
+ghost use Rattle.layout.specs.Openings.{walked-bits, sight, seen-bytes, seen-list, BookOpened, CertificateOpened, Beside};
 ghost use Rattle.layout.specs.Answers.{listing-beside, writing-beside};
 ghost use Rattle.layout.specs.Promises.{Answers, BookRead, BookWritten, CertificateRead, CertificateWritten};
 
@@ -41,14 +41,14 @@ fn ends(s: &[u8], bit: usize) -> bool
     }
     let rest = bits::Cursor { at: bit };
     match rest.take(8 * s.len() - bit, s) {
-        bits::Field::Past => false,
-        bits::Field::Got(v, _) => v == 0,
+        bits::Taken::Past => false,
+        bits::Taken::Got(v, _) => v == 0,
     }
 }
 
 // What a walk over a file's bytes comes to, once the end of the file is looked at.
 fn opened(s: &[u8], file: W, w: Walk) -> Opening
-    requires { ⌜ (length (now s) ≤ 32768) × (bits-of w ≤ 8 * length (now s)) ⌝ }
+    requires { ⌜ (length (now s) ≤ 32768) × (walked-bits w ≤ 8 * length (now s)) ⌝ }
     ensures { λ r. ⌜ sight r ≡ seen-bytes (w-of file) (now (s .entry)) w ⌝ }
 {
     match w {

@@ -8,16 +8,16 @@ use native.Mathlib.Omega.{arith}
 use lib.ListN.{length, getD}
 use Rattle.answers.specs.Carried.{carried}
 use Rattle.answers.specs.Numbers.{paper-verdict}
-use Rattle.patterns.specs.Refusal.{line-place}
+use Rattle.patterns.specs.Reason.{line-place}
 use Rattle.patterns.specs.First.{Exp, Pair, Pace, one}
 use Rattle.patterns.specs.Derive.{Book}
 use Rattle.patterns.specs.Certificate.{Claim, Line, Closing}
-use Rattle.patterns.specs.Judge.{line-checks, checks-from, checks, first-unmet, refuse, verdict, judge}
+use Rattle.patterns.specs.Judge.{line-checks, checks-from, checks, first-unmet, refuse, ruling, judge}
 use Rattle.grammar.specs.Listing.{line-fields, closing-fields, certificate-fields}
 use Rattle.grammar.specs.Limits.{LinesFit, ClosingFits, call-counts}
 use Rattle.table.specs.Places.{LEFTS, RIGHTS, EMPTY}
 use Rattle.verdicts.proofs.Parted.{parted-line}
-use Rattle.answers.specs.declared.Verdict.{Verdict as Ruling}
+use Rattle.answers.specs.declared.Verdict.{Verdict}
 use Rattle.instances.specs.declared.Read.{Read}
 use Rattle.comparing.specs.declared.Found.{Found}
 use Rattle.comparing.specs.declared.Found.the-variants.{Fault, Good}
@@ -36,24 +36,24 @@ use Rattle.lines.proofs.Placing.{fault-carried, placed-none, placed-fau
 
 -- ---- all lines
 
-pub lines-none : {book cert w after : List ℕ} {at k n : ℕ} {r : Ruling} → n ≡ 0 → ClosingAt book cert at w after r → LinesAt book cert at k n w after r
+pub lines-none : {book cert w after : List ℕ} {at k n : ℕ} {r : Verdict} → n ≡ 0 → ClosingAt book cert at w after r → LinesAt book cert at k n w after r
 unfolding flatMap checks-from
 lines-none {book} {cert} {w} {after} {at} {k} {n} {r} z p = record { told = go; size = p .size }
   where
     go : (ars : List ℕ) (B : Book Exp) (es : List (Claim Exp)) → Known book cert w ars B es → length es ≡ k → (ls : List (Line Exp Pair)) (c : Closing Exp Pace)
         → length ls ≡ n → LinesFit ars (call-counts B) k ls → ClosingFits ars (k + n) c → Lies cert at (flatMap line-fields ls ++ closing-fields c)
-        → paper-verdict r ≡ verdict one (first-unmet one (checks-from one B es k ls c)) c
+        → paper-verdict r ≡ ruling one (first-unmet one (checks-from one B es k ls c)) c
     go ars B es known len [] c e fits cf lies = p .told ars B es known c (subst (λ j. ClosingFits ars j c) (omega arith) cf) lies
     go ars B es known len (l ∷ ls) c e fits cf lies = absurd (omega arith)
 
 module _ {book cert w v : List ℕ} {at k n : ℕ} {f : Found} (ne : n ≢ 0) (small : k + n ≤ 255) (first : LineAt book cert at k w v f) where
-  pub lines-fault : {m p : ℕ} {r : Ruling} → f ≡ Fault m p → paper-verdict r ≡ refuse (carried m line-place k p) → LinesAt book cert at k n w v r
+  pub lines-fault : {m p : ℕ} {r : Verdict} → f ≡ Fault m p → paper-verdict r ≡ refuse (carried m line-place k p) → LinesAt book cert at k n w v r
   unfolding flatMap checks-from LinesFit
   lines-fault {m} {p} {r} q e = record { told = go; size = first .size }
     where
       go : (ars : List ℕ) (B : Book Exp) (es : List (Claim Exp)) → Known book cert w ars B es → length es ≡ k → (ls : List (Line Exp Pair)) (c : Closing Exp Pace)
           → length ls ≡ n → LinesFit ars (call-counts B) k ls → ClosingFits ars (k + n) c → Lies cert at (flatMap line-fields ls ++ closing-fields c)
-          → paper-verdict r ≡ verdict one (first-unmet one (checks-from one B es k ls c)) c
+          → paper-verdict r ≡ ruling one (first-unmet one (checks-from one B es k ls c)) c
       go ars B es known len [] c i fits cf lies = absurd (ne (sym i))
       go ars B es known len (l ∷ ls) c i fits cf lies =
           let all = append-assoc (line-fields l) (flatMap line-fields ls) (closing-fields c) in
@@ -63,13 +63,13 @@ module _ {book cert w v : List ℕ} {at k n : ℕ} {f : Found} (ne : n ≢ 0) (s
           e ∙ ap refuse (fault-carried _ (parted-line one es B (l .claim) (l .kind)) m p line-place k found)
           ∙ sym (placed-fault line-place k _ (line-checks one es B (l .claim) (l .kind)) m p c found)
 
-  pub lines-on : {x : ℕ} {after : List ℕ} {r : Ruling} → f ≡ Good x → LinesAt book cert x (k + 1) (n - 1) v after r → LinesAt book cert at k n w after r
+  pub lines-on : {x : ℕ} {after : List ℕ} {r : Verdict} → f ≡ Good x → LinesAt book cert x (k + 1) (n - 1) v after r → LinesAt book cert at k n w after r
   unfolding flatMap checks-from LinesFit
   lines-on {x} {after} {r} q rest = record { told = go; size = rest .size ∙ first .size }
     where
       go : (ars : List ℕ) (B : Book Exp) (es : List (Claim Exp)) → Known book cert w ars B es → length es ≡ k → (ls : List (Line Exp Pair)) (c : Closing Exp Pace)
           → length ls ≡ n → LinesFit ars (call-counts B) k ls → ClosingFits ars (k + n) c → Lies cert at (flatMap line-fields ls ++ closing-fields c)
-          → paper-verdict r ≡ verdict one (first-unmet one (checks-from one B es k ls c)) c
+          → paper-verdict r ≡ ruling one (first-unmet one (checks-from one B es k ls c)) c
       go ars B es known len [] c i fits cf lies = absurd (ne (sym i))
       go ars B es known len (l ∷ ls) c i fits cf lies =
           let all = append-assoc (line-fields l) (flatMap line-fields ls) (closing-fields c) in
@@ -80,8 +80,8 @@ module _ {book cert w v : List ℕ} {at k n : ℕ} {f : Found} (ne : n ≢ 0) (s
           (lies-back cert at (line-fields l) (flatMap line-fields ls ++ closing-fields c) whole) in
           rest .told ars B (es ++ (l .claim ∷ [])) (y .1) (length-more es (l .claim) ∙ omega arith) ls c (omega arith) (fits .2)
           (subst (λ j. ClosingFits ars j c) (omega arith) cf) behind-it
-          ∙ ap (λ j. verdict one (first-unmet one (checks-from one B (es ++ (l .claim ∷ [])) j ls c)) c) (omega arith)
-          ∙ sym (ap (λ o. verdict one o c) (placed-none line-place k _ (line-checks one es B (l .claim) (l .kind)) (good .0)))
+          ∙ ap (λ j. ruling one (first-unmet one (checks-from one B (es ++ (l .claim ∷ [])) j ls c)) c) (omega arith)
+          ∙ sym (ap (λ o. ruling one o c) (placed-none line-place k _ (line-checks one es B (l .claim) (l .kind)) (good .0)))
 
 -- ---- the whole
 
@@ -101,7 +101,7 @@ prepares {book} {w} {v} {after} f i = record {
     no-claim : {cert ars : List ℕ} (k : ℕ) (c : Claim Exp) → _≡_ {A = Option (Claim Exp)} none (some c) → ClaimAt cert ars (getD after (LEFTS + k) 0) (getD after (RIGHTS + k) 0) c
     no-claim k c e = let z : _≡_ {A = ℕ} 0 1 = cc in absurd (omega arith)
 
-pub judges-lines : {book cert w v after : List ℕ} {c : Read} {r : Ruling} → Prepares book w v → Takes cert 8 0 c → LinesAt book cert (c .at) 0 (c .value) v after r
+pub judges-lines : {book cert w v after : List ℕ} {c : Read} {r : Verdict} → Prepares book w v → Takes cert 8 0 c → LinesAt book cert (c .at) 0 (c .value) v after r
     → JudgesLines book cert w after r
 unfolding certificate-fields judge checks
 judges-lines {book} {cert} {w} {v} {after} {c} p t l = record {

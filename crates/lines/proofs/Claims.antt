@@ -11,7 +11,7 @@ use Rattle.bits.specs.Packed.{width}
 use Rattle.bits.proofs.Groups.{width-append}
 use Rattle.patterns.specs.First.{Exp, Pair, one}
 use Rattle.patterns.specs.Derive.{Book}
-use Rattle.patterns.specs.Certificate.{Claim, Kind, unfolds, descends}
+use Rattle.patterns.specs.Certificate.{Claim, LineKind, unfolds, descends}
 use Rattle.patterns.specs.Judge.{Check, line-checks}
 use Rattle.grammar.specs.Listing.{if-any, term-fields, claim-fields, kind-fields, kind-number, line-fields}
 use Rattle.grammar.specs.Limits.{KindFits, call-counts}
@@ -107,7 +107,7 @@ module _ {book cert w after : List ℕ} {tag left right at : ℕ} {r : Found} wh
   kind-unfold z p = record { told = λ ars B es known l L R e fits lies. go ars B es known (l .claim) L R (l .kind) e fits lies; below = p .below }
     where
       go : (ars : List ℕ) (B : Book Exp) (es : List (Claim Exp)) → Known book cert w ars B es → (l : Claim Exp) → LeftAt cert ars left (l .left)
-          → RightAt cert ars right (l .right) → (q : Kind Exp Pair) → kind-number q ≡ tag → KindFits ars (call-counts B) (length es) q
+          → RightAt cert ars right (l .right) → (q : LineKind Exp Pair) → kind-number q ≡ tag → KindFits ars (call-counts B) (length es) q
           → Lies cert at (kind-fields q) → Finds (line-checks one es B l q) (at + width (kind-fields q)) r
       go ars B es known l L R (unfolds k θ s) e fits lies = p .told ars B es known l L R k θ s fits lies
       go ars B es known l L R (descends u k θ) e fits lies = absurd (omega arith)
@@ -117,7 +117,7 @@ module _ {book cert w after : List ℕ} {tag left right at : ℕ} {r : Found} wh
   kind-descent ne p = record { told = λ ars B es known l L R e fits lies. go ars B es known (l .claim) L R (l .kind) e fits lies; below = p .below }
     where
       go : (ars : List ℕ) (B : Book Exp) (es : List (Claim Exp)) → Known book cert w ars B es → (l : Claim Exp) → LeftAt cert ars left (l .left)
-          → RightAt cert ars right (l .right) → (q : Kind Exp Pair) → kind-number q ≡ tag → KindFits ars (call-counts B) (length es) q
+          → RightAt cert ars right (l .right) → (q : LineKind Exp Pair) → kind-number q ≡ tag → KindFits ars (call-counts B) (length es) q
           → Lies cert at (kind-fields q) → Finds (line-checks one es B l q) (at + width (kind-fields q)) r
       go ars B es known l L R (unfolds k θ s) e fits lies = absurd (ne (sym e))
       go ars B es known l L R (descends u k θ) e fits lies = p .told ars B es known l L R u k θ fits lies

@@ -8,7 +8,7 @@ use lib.ListN.{getD, getElem?}
 use Rattle.answers.specs.Carried.{carried}
 use Rattle.answers.specs.Numbers.{paper-verdict}
 use Rattle.patterns.specs.Term.{fill}
-use Rattle.patterns.specs.Refusal.{closing-place}
+use Rattle.patterns.specs.Reason.{closing-place}
 use Rattle.patterns.specs.First.{Exp, Pace, one, from, to}
 use Rattle.patterns.specs.Edition.{reindex}
 use Rattle.patterns.specs.Derive.{Book}
@@ -17,16 +17,16 @@ use Rattle.patterns.specs.Demand.{Met, present}
 use Rattle.patterns.specs.Judge.{check, compare, loop-checks, closing-checks, accept, refuse}
 use Rattle.grammar.specs.Listing.{closing-fields}
 use Rattle.verdicts.proofs.Parted.{parted-closing}
-use Rattle.answers.specs.declared.Verdict.{Verdict as Ruling}
+use Rattle.answers.specs.declared.Verdict.{Verdict}
 use Rattle.instances.specs.declared.Read.{Read}
 use Rattle.comparing.specs.declared.Found.{Found}
 use Rattle.comparing.specs.declared.Found.the-variants.{Fault, Good}
-use Rattle.comparing.specs.declared.Kind.the-variants.{Closing as AtClosing}
+use Rattle.comparing.specs.declared.Whole.the-variants.{Closing as AtClosing}
 use Rattle.comparing.specs.declared.Subject.{Subject}
 use Rattle.comparing.specs.declared.Subject.the-variants.{Empty, Claimed}
 use Rattle.comparing.specs.declared.Filled.the-variants.{Bare, Used}
 use Rattle.comparing.specs.declared.Behind.the-variants.{Nothing}
-use Rattle.instances.specs.Fillings.{Fills as Tells}
+use Rattle.instances.specs.Fillings.{FillsTold}
 use Rattle.instances.specs.Listings.{Lists}
 use Rattle.begins.specs.Placed.{RightAt, ClaimAt}
 use Rattle.instances.specs.Taking.{Takes}
@@ -72,7 +72,7 @@ module _ {book cert w v : List ℕ} {left right : ℕ} {r : Found} (first : Chec
 
   module _ (k α : ℕ) {x : ℕ} {from-right : Subject} {after : List ℕ} {s : Found} (good : r ≡ Good x) (plain : RightMeans cert right 1 α Bare from-right) (second : Checks book cert AtClosing 1 right Nothing from-right (Claimed left 1 (α + k) Used) v after s) where
     loop-found : {ars : List ℕ} {B : Book Exp} {es : List (Claim Exp)} → Known book cert w ars B es → (d : Closing Exp Pace) → d .pace ≡ pace-of k α
-        → Tells book cert w USED (by (d .fills)) → (l : Claim Exp) → ClaimAt cert ars left right l → (m : Mark Exp) → l .right ≡ m
+        → FillsTold book cert w USED (by (d .fills)) → (l : Claim Exp) → ClaimAt cert ars left right l → (m : Mark Exp) → l .right ≡ m
         → (end : ℕ) × Finds (loop-checks one l d m) end s
     unfolding loop-checks from to asked-at checks-of end-of Met
     loop-found {ars} {B} {es} known d p filled l here none q =
@@ -99,7 +99,7 @@ module _ {book cert w v : List ℕ} {left right : ℕ} {r : Found} (first : Chec
     }
 
 module _ {book cert w v : List ℕ} {line k α : ℕ} {f : Found} (found : ClosingFound book cert line k α w v f) where
-  pub closing-fault : {n p : ℕ} {r : Ruling} → f ≡ Fault n p → paper-verdict r ≡ refuse (carried n closing-place line p) → ClosingBy book cert line k α w v r
+  pub closing-fault : {n p : ℕ} {r : Verdict} → f ≡ Fault n p → paper-verdict r ≡ refuse (carried n closing-place line p) → ClosingBy book cert line k α w v r
   closing-fault {n} {p} q e = record {
     told = λ ars B es known d i pc filled small.
         let first = at-fault (found .told ars B es known d i pc filled small .1) q in
@@ -109,7 +109,7 @@ module _ {book cert w v : List ℕ} {line k α : ℕ} {f : Found} (found : Closi
     size = found .size;
   }
 
-  pub closing-good : {x : ℕ} {r : Ruling} → f ≡ Good x → paper-verdict r ≡ accept line (pace-of k α) → ClosingBy book cert line k α w v r
+  pub closing-good : {x : ℕ} {r : Verdict} → f ≡ Good x → paper-verdict r ≡ accept line (pace-of k α) → ClosingBy book cert line k α w v r
   closing-good q e = record {
     told = λ ars B es known d i p filled small.
         e ∙ ap (λ a. accept a (pace-of k α)) (sym i) ∙ ap (accept (d .line)) (sym p)
@@ -117,7 +117,7 @@ module _ {book cert w v : List ℕ} {line k α : ℕ} {f : Found} (found : Closi
     size = found .size;
   }
 
-pub closing-at : {book cert w v after : List ℕ} {at end : ℕ} {c d e : Read} {r : Ruling} → Takes cert 8 at c → Takes cert 12 (c .at) d → Takes cert 12 (d .at) e
+pub closing-at : {book cert w v after : List ℕ} {at end : ℕ} {c d e : Read} {r : Verdict} → Takes cert 8 at c → Takes cert 12 (c .at) d → Takes cert 12 (d .at) e
     → Lists book cert USED (e .at) w v end → ClosingBy book cert (c .value) (d .value) (e .value) v after r → ClosingAt book cert at w after r
 unfolding closing-fields
 closing-at {book} {cert} {w} {v} {after} {at} {end} {c} {d} {e} tc td te f p = record {

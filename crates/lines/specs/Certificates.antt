@@ -5,19 +5,19 @@ use mathlib.Core.List.{List, [], _∷_, _++_, map, flatMap}
 use lib.ListN.{length, getD}
 use Rattle.answers.specs.Numbers.{paper-verdict}
 use Rattle.bits.specs.Packed.{width}
-use Rattle.patterns.specs.Refusal.{closing-place}
+use Rattle.patterns.specs.Reason.{closing-place}
 use Rattle.patterns.specs.First.{Exp, Pair, Pace, one}
 use Rattle.patterns.specs.Derive.{Book}
 use Rattle.patterns.specs.Certificate.{by, Claim, Line, Closing, Certificate}
-use Rattle.patterns.specs.Judge.{place, line-checks, closing-checks, checks-from, first-unmet, verdict, judge}
+use Rattle.patterns.specs.Judge.{place, line-checks, closing-checks, checks-from, first-unmet, ruling, judge}
 use Rattle.grammar.specs.Books.{RuleBook}
 use Rattle.grammar.specs.Listing.{line-fields, kind-fields, kind-number, closing-fields, certificate-fields, book-fields}
 use Rattle.grammar.specs.Limits.{ClaimFits, KindFits, LinesFit, ClosingFits, call-counts, BookFits, CertificateFits}
 use Rattle.table.specs.Places.{LEFTS, RIGHTS, OWN, USED}
-use Rattle.answers.specs.declared.Verdict.{Verdict as Ruling}
+use Rattle.answers.specs.declared.Verdict.{Verdict}
 use Rattle.comparing.specs.declared.Found.{Found}
 use Rattle.instances.specs.Lying.{Lies, Known-arities}
-use Rattle.instances.specs.Fillings.{Fills as Tells}
+use Rattle.instances.specs.Fillings.{FillsTold}
 use Rattle.begins.specs.Placed.{RightAt, LeftAt}
 use Rattle.begins.specs.Known.{Below, Known}
 use Rattle.comparing.specs.Found.{Finds}
@@ -50,30 +50,30 @@ pub record LineAt (book cert : List ℕ) (at k : ℕ) (w after : List ℕ) (r : 
 -- the checks of a closing whose filling stands in the table
 pub record ClosingFound (book cert : List ℕ) (line k α : ℕ) (w after : List ℕ) (r : Found) : Type 0 where
   pub told : (ars : List ℕ) (B : Book Exp) (es : List (Claim Exp)) → Known book cert w ars B es
-      → (c : Closing Exp Pace) → c .line ≡ line → c .pace ≡ pace-of k α → Tells book cert w USED (by (c .fills)) → c .line < length es
+      → (c : Closing Exp Pace) → c .line ≡ line → c .pace ≡ pace-of k α → FillsTold book cert w USED (by (c .fills)) → c .line < length es
       → (end : ℕ) × Finds (closing-checks one es c) end r
   pub size : length after ≡ length w
 
 -- and its verdict
-pub record ClosingBy (book cert : List ℕ) (line k α : ℕ) (w after : List ℕ) (r : Ruling) : Type 0 where
+pub record ClosingBy (book cert : List ℕ) (line k α : ℕ) (w after : List ℕ) (r : Verdict) : Type 0 where
   pub told : (ars : List ℕ) (B : Book Exp) (es : List (Claim Exp)) → Known book cert w ars B es
-      → (c : Closing Exp Pace) → c .line ≡ line → c .pace ≡ pace-of k α → Tells book cert w USED (by (c .fills)) → c .line < length es
-      → paper-verdict r ≡ verdict one (first-unmet one (map (place one closing-place (c .line)) (closing-checks one es c))) c
+      → (c : Closing Exp Pace) → c .line ≡ line → c .pace ≡ pace-of k α → FillsTold book cert w USED (by (c .fills)) → c .line < length es
+      → paper-verdict r ≡ ruling one (first-unmet one (map (place one closing-place (c .line)) (closing-checks one es c))) c
   pub size : length after ≡ length w
 
 -- of a closing that lies at a bit
-pub record ClosingAt (book cert : List ℕ) (at : ℕ) (w after : List ℕ) (r : Ruling) : Type 0 where
+pub record ClosingAt (book cert : List ℕ) (at : ℕ) (w after : List ℕ) (r : Verdict) : Type 0 where
   pub told : (ars : List ℕ) (B : Book Exp) (es : List (Claim Exp)) → Known book cert w ars B es
       → (c : Closing Exp Pace) → ClosingFits ars (length es) c → Lies cert at (closing-fields c)
-      → paper-verdict r ≡ verdict one (first-unmet one (map (place one closing-place (c .line)) (closing-checks one es c))) c
+      → paper-verdict r ≡ ruling one (first-unmet one (map (place one closing-place (c .line)) (closing-checks one es c))) c
   pub size : length after ≡ length w
 
 -- of the n lines from number k on, and the closing
-pub record LinesAt (book cert : List ℕ) (at k n : ℕ) (w after : List ℕ) (r : Ruling) : Type 0 where
+pub record LinesAt (book cert : List ℕ) (at k n : ℕ) (w after : List ℕ) (r : Verdict) : Type 0 where
   pub told : (ars : List ℕ) (B : Book Exp) (es : List (Claim Exp)) → Known book cert w ars B es → length es ≡ k
       → (ls : List (Line Exp Pair)) (c : Closing Exp Pace) → length ls ≡ n → LinesFit ars (call-counts B) k ls → ClosingFits ars (k + n) c
       → Lies cert at (flatMap line-fields ls ++ closing-fields c)
-      → paper-verdict r ≡ verdict one (first-unmet one (checks-from one B es k ls c)) c
+      → paper-verdict r ≡ ruling one (first-unmet one (checks-from one B es k ls c)) c
   pub size : length after ≡ length w
 
 -- the table made ready for a book
@@ -83,7 +83,7 @@ pub record Prepares (book w after : List ℕ) : Type 0 where
   pub size : length after ≡ length w
 
 -- the whole: the verdict of the judge over trees
-pub record JudgesLines (book cert w after : List ℕ) (r : Ruling) : Type 0 where
+pub record JudgesLines (book cert w after : List ℕ) (r : Verdict) : Type 0 where
   pub told : (b : RuleBook) → Known-arities book (b .arities) → BookFits b → Lies book 0 (book-fields b)
       → (K : Certificate Exp Pair Pace) → CertificateFits b K → Lies cert 0 (certificate-fields K) → paper-verdict r ≡ judge one (b .rules) K
   pub size : length after ≡ length w

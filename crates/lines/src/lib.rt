@@ -5,8 +5,8 @@ use answers::W;
 use comparing::Behind;
 use comparing::Filled;
 use comparing::Found;
-use comparing::Kind;
 use comparing::Subject;
+use comparing::Whole;
 use table::EMPTY;
 use table::LEFTS;
 use table::RIGHTS;
@@ -87,7 +87,7 @@ fn closing_parts(
         book,
         certificate,
         w,
-        Kind::Closing,
+        Whole::Closing,
         0,
         right,
         Behind::Nothing,
@@ -99,7 +99,7 @@ fn closing_parts(
             book,
             certificate,
             w,
-            Kind::Closing,
+            Whole::Closing,
             1,
             right,
             Behind::Nothing,

@@ -10,7 +10,7 @@ use Rattle.patterns.specs.Every.{Every}
 use Rattle.patterns.proofs.Every.{every-first, every-rest, every-append}
 use Rattle.patterns.specs.Derive.{Book}
 use Rattle.patterns.specs.Edition.{Edition, reindex, form, Same}
-use Rattle.patterns.specs.Certificate.{Fills, by, Mark, Claim, Use, Stop, fact, call, Kind, unfolds, descends, Closing}
+use Rattle.patterns.specs.Certificate.{Fills, by, Mark, Claim, Use, Stop, fact, call, LineKind, unfolds, descends, Closing}
 use Rattle.patterns.specs.Checks.{Pending, SameMark, instance, instance-mark, reindex-mark, Stopped, Stops, Checked, Closes}
 use Rattle.patterns.specs.Demand.{Demand, small, same, empty, present, level, missing, Met, Fits}
 use Rattle.patterns.specs.Judge.{Check, check, compare, given, pending, sole, parts, stops, line-checks, loop-checks, closing-checks}
@@ -30,8 +30,8 @@ module _ {E I R S : Type 0} (𝓔 : Edition E I R S) where
   abbrev pub Meets : Check E → Type 0
   Meets k = Met 𝓔 (k .demand)
 
-  abbrev pub Sized : Check E → Type 0
-  Sized k = Fits 𝓔 (k .demand)
+  abbrev pub FitsMet : Check E → Type 0
+  FitsMet k = Fits 𝓔 (k .demand)
 
   pub met-fits : (d : Demand E) → Met 𝓔 d → Fits 𝓔 d
   unfolding Met Fits
@@ -48,7 +48,7 @@ module _ {E I R S : Type 0} (𝓔 : Edition E I R S) where
   unfolding compare Every Met
   compared n p m k h = h .1 .1 .0
 
-  compares : (n p : ℕ) (m k : Mark E) → SameMark 𝓔 m k → Every Sized (compare n p m k) → Every Meets (compare n p m k)
+  compares : (n p : ℕ) (m k : Mark E) → SameMark 𝓔 m k → Every FitsMet (compare n p m k) → Every Meets (compare n p m k)
   unfolding compare Every Met Fits
   compares n p m k e f = (f .0, (f .1 .0, (e, tt)))
 
@@ -76,18 +76,18 @@ module _ {E I R S : Type 0} (𝓔 : Edition E I R S) where
   was-given (some a) f h = (a, refl, h)
 
   is-given : {A : Type 0} (o : Option A) (f : A → List (Check E)) (a : A) → o ≡ some a
-      → (Every Sized (f a) → Every Meets (f a)) → Every Sized (given o f) → Every Meets (given o f)
+      → (Every FitsMet (f a) → Every Meets (f a)) → Every FitsMet (given o f) → Every Meets (given o f)
   unfolding given
   is-given none f a e g h = absurd (Option·none-ne-some a e)
   is-given (some b) f a e g h =
       subst (λ c. Every Meets (f c)) (sym (Option·some-injective b a e))
-      (g (subst (λ c. Every Sized (f c)) (Option·some-injective b a e) h))
+      (g (subst (λ c. Every FitsMet (f c)) (Option·some-injective b a e) h))
 
   -- joins the checks of two parts
-  both : (ks ls : List (Check E)) → (Every Sized ks → Every Meets ks) → (Every Sized ls → Every Meets ls)
-      → Every Sized (ks ++ ls) → Every Meets (ks ++ ls)
+  both : (ks ls : List (Check E)) → (Every FitsMet ks → Every Meets ks) → (Every FitsMet ls → Every Meets ls)
+      → Every FitsMet (ks ++ ls) → Every Meets (ks ++ ls)
   both ks ls f g h =
-      every-append Meets ks ls (f (every-first Sized ks ls h)) (g (every-rest Sized ks ls h))
+      every-append Meets ks ls (f (every-first FitsMet ks ls h)) (g (every-rest FitsMet ks ls h))
 
   -- ---- checks that are met show what they check
 
@@ -134,7 +134,7 @@ module _ {E I R S : Type 0} (𝓔 : Edition E I R S) where
         )
 
     met-parts : (θ : Fills E) (j : ℕ) (vs : List (Term E)) (us : List (Use E R)) (last : Option (Use E R)) (m : Mark E)
-        → Stopped 𝓔 es θ vs us last m → Every Sized (parts 𝓔 es θ j vs us last m)
+        → Stopped 𝓔 es θ vs us last m → Every FitsMet (parts 𝓔 es θ j vs us last m)
         → Every Meets (parts 𝓔 es θ j vs us last m)
     unfolding parts Stopped Every Met
     met-parts θ j [] us last m h f = absurd h
@@ -167,14 +167,14 @@ module _ {E I R S : Type 0} (𝓔 : Edition E I R S) where
     stops-met θ (v ∷ vs) (call us last) m h = parts-met θ 1 (v ∷ vs) us last m h
 
     met-stops : (θ : Fills E) (vs : List (Term E)) (s : Stop E R) (m : Mark E) → Stops 𝓔 es θ vs s m
-        → Every Sized (stops 𝓔 es θ vs s m) → Every Meets (stops 𝓔 es θ vs s m)
+        → Every FitsMet (stops 𝓔 es θ vs s m) → Every Meets (stops 𝓔 es θ vs s m)
     unfolding stops Stops
     met-stops θ [] fact m h f = compares 12 15 m none (mark-empty m h) f
     met-stops θ [] (call us last) m h f = absurd h
     met-stops θ (v ∷ vs) fact m h f = absurd h
     met-stops θ (v ∷ vs) (call us last) m h f = met-parts θ 1 (v ∷ vs) us last m h f
 
-    pub line-met : (B : Book E) (l : Claim E) (k : Kind E R) → Every Meets (line-checks 𝓔 es B l k) → Checked 𝓔 es B l k
+    pub line-met : (B : Book E) (l : Claim E) (k : LineKind E R) → Every Meets (line-checks 𝓔 es B l k) → Checked 𝓔 es B l k
     unfolding line-checks Checked Every Met
     line-met B l (unfolds k θ s) h =
         let r = was-given (getElem? B k) _ h in
@@ -212,7 +212,7 @@ module _ {E I R S : Type 0} (𝓔 : Edition E I R S) where
           level = (every-rest Meets (p0 ++ p1 ++ p2 ++ p3) p4 (v .2)) .0;
         }
 
-    pub met-line : (B : Book E) (l : Claim E) (k : Kind E R) → Checked 𝓔 es B l k → Every Sized (line-checks 𝓔 es B l k)
+    pub met-line : (B : Book E) (l : Claim E) (k : LineKind E R) → Checked 𝓔 es B l k → Every FitsMet (line-checks 𝓔 es B l k)
         → Every Meets (line-checks 𝓔 es B l k)
     unfolding line-checks Checked Every Met
     met-line B l (unfolds k θ s) h f =
@@ -243,7 +243,7 @@ module _ {E I R S : Type 0} (𝓔 : Edition E I R S) where
   loop-met l c none e n h = absurd (n refl)
   loop-met l c (some r) e n h = record { right = r; not-empty = e; loops = same-terms _ _ (compared 15 1 _ _ h) }
 
-  met-loop : (l : Claim E) (c : Closing E S) (m : Mark E) → l .right ≡ m → Closes 𝓔 l c → Every Sized (loop-checks 𝓔 l c m)
+  met-loop : (l : Claim E) (c : Closing E S) (m : Mark E) → l .right ≡ m → Closes 𝓔 l c → Every FitsMet (loop-checks 𝓔 l c m)
       → Every Meets (loop-checks 𝓔 l c m)
   unfolding loop-checks
   met-loop l c none e h f = absurd (Option·none-ne-some (h .right) (sym e ∙ h .not-empty))
@@ -263,7 +263,7 @@ module _ {E I R S : Type 0} (𝓔 : Edition E I R S) where
       let l = was-given (getElem? es (c .line)) _ h in
       record { claim = l .0; named = l .1; closes = loop-met (l .0) c (l .0 .right) refl (l .2 .0) (l .2 .1) }
 
-  pub met-closing : (es : List (Claim E)) (c : Closing E S) → Closed es c → Every Sized (closing-checks 𝓔 es c)
+  pub met-closing : (es : List (Claim E)) (c : Closing E S) → Closed es c → Every FitsMet (closing-checks 𝓔 es c)
       → Every Meets (closing-checks 𝓔 es c)
   unfolding closing-checks Every Met
   met-closing es c h f =

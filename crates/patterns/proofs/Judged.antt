@@ -12,10 +12,10 @@ use Rattle.patterns.specs.Derive.{Book}
 use Rattle.patterns.specs.Edition.{Edition}
 use Rattle.patterns.specs.Certificate.{Claim, Line, Closing, Certificate, claim-of}
 use Rattle.patterns.specs.Checks.{Lines, Good}
-use Rattle.patterns.specs.Refusal.{Refusal, line-place, closing-place}
+use Rattle.patterns.specs.Reason.{Reason, line-place, closing-place}
 use Rattle.patterns.specs.Demand.{met?}
-use Rattle.patterns.specs.Judge.{check, line-checks, closing-checks, Placed, place, checks-from, checks, first-unmet, Verdict, accept, refuse, verdict, judge, Small, FirstBroken}
-use Rattle.patterns.proofs.AllMet.{Meets, Sized, met-fits, line-met, met-line, Closed, closing-met, met-closing}
+use Rattle.patterns.specs.Judge.{check, line-checks, closing-checks, Placed, place, checks-from, checks, first-unmet, Ruling, accept, refuse, ruling, judge, Small, FirstBroken}
+use Rattle.patterns.proofs.AllMet.{Meets, FitsMet, met-fits, line-met, met-line, Closed, closing-met, met-closing}
 
 module _ {E I R S : Type 0} (𝓔 : Edition E I R S) where
   -- ---- the first check that is not met
@@ -109,7 +109,7 @@ module _ {E I R S : Type 0} (𝓔 : Edition E I R S) where
       }
 
   abbrev SizedAt : Placed 𝓔 → Type 0
-  SizedAt p = Sized 𝓔 (p .check)
+  SizedAt p = FitsMet 𝓔 (p .check)
 
   met-checks : (B : Book E) (es : List (Claim E)) (a : ℕ) (ls : List (Line E R)) (c : Closing E S)
       → GoodFrom B es ls c → Every SizedAt (checks-from 𝓔 B es a ls c) → Every Held (checks-from 𝓔 B es a ls c)
@@ -161,24 +161,24 @@ module _ {E I R S : Type 0} (𝓔 : Edition E I R S) where
     -- line and pace.
     pub accepts-exactly : (l : ℕ) (s : S)
         → (judge 𝓔 B K ≡ accept l s) ↔ (Good 𝓔 B K × Small 𝓔 B K × (l ≡ K .closing .line) × (s ≡ K .closing .pace))
-    unfolding judge verdict
+    unfolding judge ruling
     accepts-exactly l s = (go (first-unmet 𝓔 (checks 𝓔 B K)) refl, back)
       where
-        go : (o : Option (Placed 𝓔)) → first-unmet 𝓔 (checks 𝓔 B K) ≡ o → verdict 𝓔 o (K .closing) ≡ accept l s
+        go : (o : Option (Placed 𝓔)) → first-unmet 𝓔 (checks 𝓔 B K) ≡ o → ruling 𝓔 o (K .closing) ≡ accept l s
             → Good 𝓔 B K × Small 𝓔 B K × (l ≡ K .closing .line) × (s ≡ K .closing .pace)
         go none e h = let g = all-met (none-unmet (checks 𝓔 B K) e) in (g .0, g .1, cc, cc)
         go (some p) e h = let z : _≡_ {A = ℕ} 0 1 = cc in absurd (omega arith)
 
         back : Good 𝓔 B K × Small 𝓔 B K × (l ≡ K .closing .line) × (s ≡ K .closing .pace) → judge 𝓔 B K ≡ accept l s
         back g =
-            ap (λ o. verdict 𝓔 o (K .closing)) (unmet-none (checks 𝓔 B K) (met-all (g .0) (g .1))) ∙ cc (g .2, g .3)
+            ap (λ o. ruling 𝓔 o (K .closing)) (unmet-none (checks 𝓔 B K) (met-all (g .0) (g .1))) ∙ cc (g .2, g .3)
 
     -- It refuses exactly with the first rule that is broken: every rule before it holds.
-    pub refuses-exactly : (r : Refusal) → (judge 𝓔 B K ≡ refuse r) ↔ FirstBroken 𝓔 B K r
-    unfolding judge verdict
+    pub refuses-exactly : (r : Reason) → (judge 𝓔 B K ≡ refuse r) ↔ FirstBroken 𝓔 B K r
+    unfolding judge ruling
     refuses-exactly r = (go (first-unmet 𝓔 (checks 𝓔 B K)) refl, back)
       where
-        go : (o : Option (Placed 𝓔)) → first-unmet 𝓔 (checks 𝓔 B K) ≡ o → verdict 𝓔 o (K .closing) ≡ refuse r
+        go : (o : Option (Placed 𝓔)) → first-unmet 𝓔 (checks 𝓔 B K) ≡ o → ruling 𝓔 o (K .closing) ≡ refuse r
             → FirstBroken 𝓔 B K r
         go none e h = let z : _≡_ {A = ℕ} 0 1 = cc in absurd (omega arith)
         go (some p) e h =
@@ -195,6 +195,6 @@ module _ {E I R S : Type 0} (𝓔 : Edition E I R S) where
 
         back : FirstBroken 𝓔 B K r → judge 𝓔 B K ≡ refuse r
         back b =
-            ap (λ o. verdict 𝓔 o (K .closing))
+            ap (λ o. ruling 𝓔 o (K .closing))
             (ap (first-unmet 𝓔) (b .whole) ∙ unmet-some (b .before) (b .broken) (b .after) (b .held) (b .unmet))
-            ∙ ap {B = Verdict S} refuse (sym (b .told))
+            ∙ ap {B = Ruling S} refuse (sym (b .told))

@@ -11,8 +11,8 @@ use Rattle.patterns.specs.Every.{Every}
 use Rattle.patterns.proofs.Every.{listed-map, every-listed}
 use Rattle.patterns.specs.Derive.{Rule, Book, Query, Step, Steps, plain-rule}
 use Rattle.patterns.specs.Edition.{Edition, at, reindex, form, Same, meant}
-use Rattle.patterns.specs.Certificate.{Fills, by, Mark, Claim, Use, Stop, fact, call, Kind, unfolds, descends, Line, Closing, Certificate, claim-of}
-use Rattle.patterns.specs.Checks.{Pending, OnMark, SameMark, instance, instance-mark, reindex-mark, Found, Stopped, Stops, Unfold, Descent, Checked, Lines, Closes, Good}
+use Rattle.patterns.specs.Certificate.{Fills, by, Mark, Claim, Use, Stop, fact, call, LineKind, unfolds, descends, Line, Closing, Certificate, claim-of}
+use Rattle.patterns.specs.Checks.{Pending, OnMark, SameMark, instance, instance-mark, reindex-mark, UsedAt, Stopped, Stops, Unfold, Descent, Checked, Lines, Closes, Good}
 use Rattle.patterns.specs.Claims.{End, Reaches, Holds, FixedRule, FixedBook, program, Family}
 use Rattle.patterns.proofs.Reaching.{solved, led, Comes, after, begins, comes, goes-on}
 
@@ -126,7 +126,7 @@ module _ {E I R S : Type 0} (𝓔 : Edition E I R S) where
     -- ---- lines over earlier ones that hold
 
     module _ (es : List (Claim E)) (known : (k : ℕ) (c : Claim E) → getElem? es k ≡ some c → Holds 𝓔 P c) where
-      found : (i : I) (σ : Filling (Unit {0})) (t : Term E) (u : Use E R) (f : Found 𝓔 es u t) (m : Mark E)
+      found : (i : I) (σ : Filling (Unit {0})) (t : Term E) (u : Use E R) (f : UsedAt 𝓔 es u t) (m : Mark E)
           → SameMark 𝓔 m (instance-mark 𝓔 u (f .claim .right))
           → Reaches P (meant 𝓔 i σ t) (Option·map (meant 𝓔 i σ) m)
       found i σ t u f m q =
@@ -206,7 +206,7 @@ module _ {E I R S : Type 0} (𝓔 : Edition E I R S) where
               (begins s (comes (rw (meant-same i σ (fill (by θ) (h .only-call)) (l .left) (h .falls)) q)))
 
       -- a line that meets its checks over lines that hold, holds
-      pub checked-holds : (l : Claim E) (k : Kind E R) → Checked 𝓔 es B l k → Holds 𝓔 P l
+      pub checked-holds : (l : Claim E) (k : LineKind E R) → Checked 𝓔 es B l k → Holds 𝓔 P l
       unfolding Checked
       checked-holds l (unfolds k θ s) h = unfold-holds l k θ s h
       checked-holds l (descends u k θ) h = descent-holds l u k θ h

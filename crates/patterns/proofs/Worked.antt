@@ -8,11 +8,11 @@ use Rattle.patterns.specs.Term.{fill}
 use Rattle.patterns.specs.Certificate.{by}
 use Rattle.patterns.specs.Edition.{at, reindex, form, Same}
 use Rattle.patterns.specs.Checks.{Lines, Closes, Good}
-use Rattle.patterns.specs.Refusal.{closing-place}
+use Rattle.patterns.specs.Reason.{closing-place}
 use Rattle.patterns.specs.Demand.{small, weight, Met}
 use Rattle.patterns.specs.Judge.{accept, refuse, judge}
 use Rattle.patterns.specs.First.{Exp, ex, Pattern, one}
-use Rattle.patterns.specs.Examples.{x, y, s, r, o, f, while, W, gt-base, gt-line, add-base, add-line, while-line, certificate}
+use Rattle.patterns.specs.Examples.{x, y, s, r, o, f, while, W-book, gt-base, gt-line, add-base, add-line, while-line, certificate}
 use Rattle.patterns.proofs.Compute.{compute}
 use Rattle.patterns.proofs.Judged.{accepts-exactly}
 
@@ -40,17 +40,17 @@ case-5 = refl
 
 -- ---- the certificate of cases 9 and 10, as a tree
 
-pub case-9 : judge one W (certificate 1) ≡ accept 4 (record { k = 1; α = 1 })
+pub case-9 : judge one W-book (certificate 1) ≡ accept 4 (record { k = 1; α = 1 })
 unfolding compute
 case-9 = refl
 
-pub case-10 : judge one W (certificate 0) ≡ refuse (record { number = 15; w = closing-place; a = 4; b = 1 })
+pub case-10 : judge one W-book (certificate 0) ≡ refuse (record { number = 15; w = closing-place; a = 4; b = 1 })
 unfolding compute
 case-10 = refl
 
 -- case 9's certificate meets every check of 01
-pub case-9-good : Good one W (certificate 1)
-case-9-good = (accepts-exactly one W (certificate 1) 4 (record { k = 1; α = 1 }) .0 case-9) .0
+pub case-9-good : Good one W-book (certificate 1)
+case-9-good = (accepts-exactly one W-book (certificate 1) 4 (record { k = 1; α = 1 }) .0 case-9) .0
 
 -- case 10's does not close
 pub case-10-open : ¬ (Closes one (while-line .claim) (certificate 0 .closing))
@@ -67,14 +67,14 @@ case-10-open c =
 
 -- ---- its lines
 
-pub case-8 : Lines one W [] (gt-base ∷ gt-line ∷ add-base ∷ add-line 2 ∷ while-line ∷ [])
+pub case-8 : Lines one W-book [] (gt-base ∷ gt-line ∷ add-base ∷ add-line 2 ∷ while-line ∷ [])
 case-8 = case-9-good .lines
 
-pub case-6 : Lines one W [] (gt-base ∷ gt-line ∷ [])
+pub case-6 : Lines one W-book [] (gt-base ∷ gt-line ∷ [])
 unfolding Lines
 case-6 = (case-8 .0, (case-8 .1 .0, tt))
 
-pub case-7 : Lines one W [] (add-base ∷ add-line 0 ∷ [])
+pub case-7 : Lines one W-book [] (add-base ∷ add-line 0 ∷ [])
 unfolding compute
 case-7 = (
   record { rule = _; listed = refl; head = refl; stop = refl },
@@ -106,7 +106,7 @@ zero-is-not-enough = (refl, λ p. let z : _≡_ {A = ℕ} 0 1 = cc in omega arit
 
 -- 01, "Closing", "Part 0: the line's right is not empty, else 14": the same lines, closed on line 1
 pub empty-right-gets-14 :
-    judge one W
+    judge one W-book
     (record {
       lines = certificate 1 .lines;
       closing = record { line = 1; pace = record { k = 1; α = 1 }; fills = [] };

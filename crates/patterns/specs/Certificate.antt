@@ -35,13 +35,13 @@ pub data Stop (E R : Type 0) : Type 0 where
   call : List (Use E R) → Option (Use E R) → Stop E R
 
 -- 01: an unfold "names a rule [..], a stop number i, a filling, and uses"; a descent "has a base use, then a rule [..] and a filling"
-pub data Kind (E R : Type 0) : Type 0 where
-  unfolds : ℕ → Fills E → Stop E R → Kind E R
-  descends : Use E R → ℕ → Fills E → Kind E R
+pub data LineKind (E R : Type 0) : Type 0 where
+  unfolds : ℕ → Fills E → Stop E R → LineKind E R
+  descends : Use E R → ℕ → Fills E → LineKind E R
 
 pub record Line (E R : Type 0) : Type 0 where
   pub claim : Claim E
-  pub kind : Kind E R
+  pub kind : LineKind E R
 
 -- 01: the closing "names a line, a step k, a start α, and a filling"; `pace` holds k and α
 pub record Closing (E S : Type 0) : Type 0 where

@@ -8,7 +8,7 @@ use lib.ListN.{getElem?}
 use Rattle.patterns.specs.Term.{Term, fill, All}
 use Rattle.patterns.specs.Derive.{Rule, Book}
 use Rattle.patterns.specs.Edition.{Edition, reindex, form, Same}
-use Rattle.patterns.specs.Certificate.{Fills, by, Mark, Claim, Use, Stop, fact, call, Kind, unfolds, descends, Line, Closing, Certificate, claim-of}
+use Rattle.patterns.specs.Certificate.{Fills, by, Mark, Claim, Use, Stop, fact, call, LineKind, unfolds, descends, Line, Closing, Certificate, claim-of}
 
 -- 01: "For j < i the used line's right must be empty; for j = i < m it must not be": what a line may end in, calls behind it or none
 unfoldable pub Pending : {E : Type 0} → List (Term E) → Mark E → Type 0
@@ -40,7 +40,7 @@ module _ {E I R S : Type 0} (𝓔 : Edition E I R S) where
   -- nothing there, and no check with it is met.
   module _ (es : List (Claim E)) where
     -- a use at the call v: an earlier line whose instance's left is v
-    pub record Found (u : Use E R) (v : Term E) : Type 0 where
+    pub record UsedAt (u : Use E R) (v : Term E) : Type 0 where
       pub claim : Claim E
       pub earlier : getElem? es (u .line) ≡ some claim
       pub left : Same 𝓔 v (instance u (claim .left))
@@ -50,8 +50,8 @@ module _ {E I R S : Type 0} (𝓔 : Edition E I R S) where
     Stopped θ [] us last m = ⊥
     Stopped θ (v ∷ vs) [] none m = SameMark m (some (fill (by θ) v))
     Stopped θ (v ∷ vs) [] (some u) m =
-        (f : Found u (fill (by θ) v)) × Pending vs (f .claim .right) × SameMark m (instance-mark u (f .claim .right))
-    Stopped θ (v ∷ vs) (u ∷ us) last m = (f : Found u (fill (by θ) v)) × (f .claim .right ≡ none) × Stopped θ vs us last m
+        (f : UsedAt u (fill (by θ) v)) × Pending vs (f .claim .right) × SameMark m (instance-mark u (f .claim .right))
+    Stopped θ (v ∷ vs) (u ∷ us) last m = (f : UsedAt u (fill (by θ) v)) × (f .claim .right ≡ none) × Stopped θ vs us last m
 
     -- 01: "If m = 0 then i = 0; else i is 1 to m."
     unfoldable pub Stops : Fills E → List (Term E) → Stop E R → Mark E → Type 0
@@ -81,7 +81,7 @@ module _ {E I R S : Type 0} (𝓔 : Edition E I R S) where
       pub falls : Same 𝓔 (fill (by θ) only-call) (l .left)
       pub level : OnMark (All (𝓔 .Level)) (l .right)
 
-    unfoldable pub Checked : Book E → Claim E → Kind E R → Type 0
+    unfoldable pub Checked : Book E → Claim E → LineKind E R → Type 0
     Checked B l (unfolds k θ s) = Unfold B l k θ s
     Checked B l (descends u k θ) = Descent B l u k θ
 

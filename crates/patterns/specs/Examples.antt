@@ -38,8 +38,8 @@ while t u = fun 4 (cons t (cons u nil))
 abbrev pub f : Pattern → Pattern → Pattern
 f t u = fun 6 (cons t (cons u nil))
 
-abbrev pub W : Book Exp
-W =
+abbrev pub W-book : Book Exp
+W-book =
     record { head = gt (s 0 1 x) o; calls = [] }
     ∷ record { head = gt (s 0 1 x) (s 0 1 y); calls = gt x y ∷ [] }
     ∷ record { head = add x o x; calls = [] }

@@ -8,11 +8,11 @@ use lib.ListN.{getElem?}
 use Rattle.patterns.specs.Term.{Term, fill}
 use Rattle.patterns.specs.Derive.{Book}
 use Rattle.patterns.specs.Edition.{Edition, reindex}
-use Rattle.patterns.specs.Certificate.{Fills, by, Mark, Claim, Use, Stop, fact, call, Kind, unfolds, descends, Line, Closing, Certificate}
+use Rattle.patterns.specs.Certificate.{Fills, by, Mark, Claim, Use, Stop, fact, call, LineKind, unfolds, descends, Line, Closing, Certificate}
 use Rattle.patterns.specs.Checks.{instance, instance-mark, reindex-mark}
 use Rattle.patterns.specs.Demand.{Demand, small, same, empty, present, level, missing, Met, Fits, met?}
 use Rattle.patterns.specs.Every.{Every}
-use Rattle.patterns.specs.Refusal.{Refusal, line-place, closing-place}
+use Rattle.patterns.specs.Reason.{Reason, line-place, closing-place}
 
 -- a demand, with the number and the part of its refusal
 pub record Check (E : Type 0) : Type 0 where
@@ -66,7 +66,7 @@ module _ {E I R S : Type 0} (𝓔 : Edition E I R S) where
     stops θ (v ∷ vs) (call us last) m = parts θ 1 (v ∷ vs) us last m
 
     -- the checks of a line, in the order of their parts
-    unfoldable pub line-checks : Book E → Claim E → Kind E R → List (Check E)
+    unfoldable pub line-checks : Book E → Claim E → LineKind E R → List (Check E)
     line-checks B l (unfolds k θ s) =
         given (getElem? B k) λ r.
         compare 9 0 (some (fill (by θ) (r .head))) (some (l .left)) ++ stops θ (r .calls) s (l .right)
@@ -99,8 +99,8 @@ module _ {E I R S : Type 0} (𝓔 : Edition E I R S) where
   abbrev pub place : ℕ → ℕ → Check E → Placed
   place w a k = record { w = w; a = a; check = k }
 
-  abbrev pub refusal : Placed → Refusal
-  refusal p = record { number = p .check .number; w = p .w; a = p .a; b = p .check .part }
+  abbrev pub reason : Placed → Reason
+  reason p = record { number = p .check .number; w = p .w; a = p .a; b = p .check .part }
 
   -- 01: "then lines from 0 up; then closing"; "A is the line judged, in the closing the line named, and B is the part"
   unfoldable pub checks-from : Book E → List (Claim E) → ℕ → List (Line E R) → Closing E S → List Placed
@@ -116,29 +116,29 @@ module _ {E I R S : Type 0} (𝓔 : Edition E I R S) where
   first-unmet [] = none
   first-unmet (p ∷ ps) = let rest = first-unmet ps in ite (met? 𝓔 (p .check .demand)) rest (some p)
 
-pub data Verdict (S : Type 0) : Type 0 where
-  accept : (line : ℕ) (pace : S) → Verdict S
-  refuse : Refusal → Verdict S
+pub data Ruling (S : Type 0) : Type 0 where
+  accept : (line : ℕ) (pace : S) → Ruling S
+  refuse : Reason → Ruling S
 
 module _ {E I R S : Type 0} (𝓔 : Edition E I R S) where
-  unfoldable pub verdict : Option (Placed 𝓔) → Closing E S → Verdict S
-  verdict none c = accept (c .line) (c .pace)
-  verdict (some p) c = refuse (refusal 𝓔 p)
+  unfoldable pub ruling : Option (Placed 𝓔) → Closing E S → Ruling S
+  ruling none c = accept (c .line) (c .pace)
+  ruling (some p) c = refuse (reason 𝓔 p)
 
   -- 01: "An accepting answer gives the line, k and α."
-  unfoldable pub judge : Book E → Certificate E R S → Verdict S
-  judge B K = verdict (first-unmet 𝓔 (checks 𝓔 B K)) (K .closing)
+  unfoldable pub judge : Book E → Certificate E R S → Ruling S
+  judge B K = ruling (first-unmet 𝓔 (checks 𝓔 B K)) (K .closing)
 
   -- no side of a comparison has more than 1,024 nodes
   unfoldable pub Small : Book E → Certificate E R S → Type 0
   Small B K = Every (λ p. Fits 𝓔 (p .check .demand)) (checks 𝓔 B K)
 
   -- the refusal of a check that is not met, where every check before it is
-  pub record FirstBroken (B : Book E) (K : Certificate E R S) (r : Refusal) : Type 0 where
+  pub record FirstBroken (B : Book E) (K : Certificate E R S) (r : Reason) : Type 0 where
     pub before : List (Placed 𝓔)
     pub broken : Placed 𝓔
     pub after : List (Placed 𝓔)
     pub whole : checks 𝓔 B K ≡ before ++ (broken ∷ after)
     pub held : Every (λ p. Met 𝓔 (p .check .demand)) before
     pub unmet : ¬ (Met 𝓔 (broken .check .demand))
-    pub told : r ≡ refusal 𝓔 broken
+    pub told : r ≡ reason 𝓔 broken

@@ -11,7 +11,7 @@ pub mod Edition
 pub mod Certificate
 pub mod Checks
 pub mod Claims
-pub mod Refusal
+pub mod Reason
 pub mod Demand
 pub mod Judge
 pub mod First

@@ -11,7 +11,7 @@ use Rattle.patterns.specs.First.{Exp, exponents}
 use Rattle.patterns.specs.Counters.{more, alone}
 use Rattle.patterns.specs.Push.{put, push, pushes}
 use Rattle.table.specs.Nodes.{nodeAt, stack, topCode, load}
-use Rattle.table.proofs.Nodes.{Tells, is-var, is-fun, is-pow, tells}
+use Rattle.table.proofs.Nodes.{TellsNode, is-var, is-fun, is-pow, tells}
 
 load-none : load [] ≡ 0
 unfolding load
@@ -75,7 +75,7 @@ next-fits ns m ks whole bound e h =
 
 -- ---- the words of the power on top
 
-told-like : {c x y : ℕ} {m : Node Exp} (s : ℕ) (ns : List (Node Exp)) → Tells c x y m → c ≡ 3 * s + 2
+told-like : {c x y : ℕ} {m : Node Exp} (s : ℕ) (ns : List (Node Exp)) → TellsNode c x y m → c ≡ 3 * s + 2
     → load (m ∷ ns) ≡ x + y + load ns
 unfolding load
 told-like s ns (is-var x p) h = absurd (omega arith)

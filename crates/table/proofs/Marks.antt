@@ -19,7 +19,7 @@ use Rattle.patterns.proofs.Push.{push-instance}
 use Rattle.patterns.proofs.Formed.{nodes-inj, formed-norm}
 use Rattle.table.specs.Places.{SIDE}
 use Rattle.table.specs.Nodes.{stack, side}
-use Rattle.table.specs.Sides.{Kept, Holds, Took}
+use Rattle.table.specs.Sides.{Kept, Stacked, Pushes}
 use Rattle.table.specs.Marks.{markNodes, formNodes, Built}
 use Rattle.table.specs.Answer.{Says}
 use Rattle.table.specs.declared.Pushed.{Pushed}
@@ -33,14 +33,14 @@ pub built-empty : (base : ℕ) (w : List ℕ) → Built base none w (Count 0)
 unfolding Built markNodes side stack
 built-empty base w = (omega arith, refl)
 
-turned : (base : ℕ) (ns : List (Node Exp)) (m : Mark Exp) (v : List ℕ) (r : Pushed) → reverse ns ≡ formNodes m → Holds base ns v r → Built base m v r
-unfolding Holds Built side
+turned : (base : ℕ) (ns : List (Node Exp)) (m : Mark Exp) (v : List ℕ) (r : Pushed) → reverse ns ≡ formNodes m → Stacked base ns v r → Built base m v r
+unfolding Stacked Built side
 turned base ns m v (Count k) e h = (h .0, ap reverse (h .1) ∙ e)
 turned base ns m v NoRoom e h = omega (arith, length-reverse ns, ap length e)
 
 module _ (base : ℕ) (w v : List ℕ) (r : Pushed) where
   -- straight from the nodes of a pattern and a filling
-  pub built-instance : {E : Type 0} (h : E → Exp) (θ : Filling Exp) (t : Term E) → Took base 0 (expand θ (retag h (nodes t))) w v r
+  pub built-instance : {E : Type 0} (h : E → Exp) (θ : Filling Exp) (t : Term E) → Pushes base 0 (expand θ (retag h (nodes t))) w v r
       → Built base (some (fill θ (exps h t))) v r
   unfolding stack form markNodes
   built-instance h θ t p =

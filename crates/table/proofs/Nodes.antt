@@ -12,16 +12,16 @@ use Rattle.patterns.specs.First.{Exp}
 use Rattle.table.specs.Nodes.{nodeOf, nodeAt, stack}
 
 -- what a node's words say
-pub data Tells (c a b : ℕ) : Node Exp → Type 0 where
-  is-var : (x : ℕ) → c ≡ 3 * x → Tells c a b (nvar x)
-  is-fun : (f : ℕ) → c ≡ 3 * f + 1 → Tells c a b (nfun f)
-  is-pow : (s : ℕ) → c ≡ 3 * s + 2 → Tells c a b (npow s (a, b))
+pub data TellsNode (c a b : ℕ) : Node Exp → Type 0 where
+  is-var : (x : ℕ) → c ≡ 3 * x → TellsNode c a b (nvar x)
+  is-fun : (f : ℕ) → c ≡ 3 * f + 1 → TellsNode c a b (nfun f)
+  is-pow : (s : ℕ) → c ≡ 3 * s + 2 → TellsNode c a b (npow s (a, b))
 
-pub tells : (c a b : ℕ) → Tells c a b (nodeOf c a b)
+pub tells : (c a b : ℕ) → TellsNode c a b (nodeOf c a b)
 unfolding nodeOf
 tells c a b = go (ℕ-discrete (c % 3) 0) (ℕ-discrete (c % 3) 1)
   where
-    go : Dec (c % 3 ≡ 0) → Dec (c % 3 ≡ 1) → Tells c a b (nodeOf c a b)
+    go : Dec (c % 3 ≡ 0) → Dec (c % 3 ≡ 1) → TellsNode c a b (nodeOf c a b)
     go (yes p) q = rw (eq-eqb (c % 3) 0 p) (is-var (c / 3) (omega arith))
     go (no p) (yes q) = rw (ne-eqb (c % 3) 0 p, eq-eqb (c % 3) 1 q) (is-fun (c / 3) (omega arith))
     go (no p) (no q) = rw (ne-eqb (c % 3) 0 p, ne-eqb (c % 3) 1 q) (is-pow (c / 3) (omega arith))
@@ -43,13 +43,13 @@ pow-told s a b =
 
 -- ---- the same node
 
-code-same : {c a b d x y : ℕ} {m : Node Exp} → Tells c a b m → Tells d x y m → c ≡ d
+code-same : {c a b d x y : ℕ} {m : Node Exp} → TellsNode c a b m → TellsNode d x y m → c ≡ d
 code-same (is-var x p) (is-var y q) = omega arith
 code-same (is-fun x p) (is-fun y q) = omega arith
 code-same (is-pow x p) (is-pow y q) = omega arith
 
 pub code-other : (c a b d x y : ℕ) → (c ≡ d → ⊥) → nodeOf c a b ≢ nodeOf d x y
-code-other c a b d x y h z = h (code-same (tells c a b) (subst (λ m. Tells d x y m) (sym z) (tells d x y)))
+code-other c a b d x y h z = h (code-same (tells c a b) (subst (λ m. TellsNode d x y m) (sym z) (tells d x y)))
 
 pub no-power : (c a b x y : ℕ) → (c % 3 ≡ 2 → ⊥) → nodeOf c a b ≡ nodeOf c x y
 unfolding nodeOf

@@ -13,12 +13,12 @@ use Rattle.patterns.specs.Counters.{pair-path, more, alone}
 use Rattle.patterns.specs.Push.{put, push, pushes}
 use Rattle.table.specs.Places.{SIDE, NODES}
 use Rattle.table.specs.Nodes.{nodeOf, nodeAt, withNode, stack, topCode, load}
-use Rattle.table.specs.Sides.{told, Room, Holds, Became, Took}
+use Rattle.table.specs.Sides.{node-told, Room, Stacked, Became, Pushes}
 use Rattle.table.specs.declared.Item.{Item}
 use Rattle.table.specs.declared.Item.the-variants.{Variable, Symbol, Power}
 use Rattle.table.specs.declared.Pushed.{Pushed}
 use Rattle.table.specs.declared.Pushed.the-variants.{Count, NoRoom}
-use Rattle.table.proofs.Nodes.{Tells, is-var, is-fun, is-pow, tells, var-told, fun-told, pow-told, stack-length}
+use Rattle.table.proofs.Nodes.{TellsNode, is-var, is-fun, is-pow, tells, var-told, fun-told, pow-told, stack-length}
 use Rattle.table.proofs.Writes.{kept-self, with-stack, with-kept}
 
 pub became-as : {base : ℕ} {ns ms : List (Node Exp)} {w v : List ℕ} {r : Pushed} → ns ≡ ms → Became base ns w v r → Became base ms w v r
@@ -28,12 +28,12 @@ became-as {base} {ns} {ms} {w} {v} {r} e b = subst (λ l. Became base l w v r) e
 
 module _ (w : List ℕ) (base n code a b : ℕ) (room : Room base n w) where
   pub store-full : n ≡ NODES → Became base (nodeOf code a b ∷ stack w base n) w w NoRoom
-  unfolding Holds
+  unfolding Stacked
   store-full h = record { holds = omega (arith, stack-length w base n); kept = kept-self base SIDE w }
 
   pub store-one : (v : List ℕ) → (n ≡ NODES → ⊥) → v ≡ withNode w (base + 3 * n) code a b
       → Became base (nodeOf code a b ∷ stack w base n) w v (Count (n + 1))
-  unfolding Holds
+  unfolding Stacked
   store-one v h e =
       let less : n < NODES = omega (arith, room .few) in
       rw (add-one n, e)
@@ -74,14 +74,14 @@ push-some ns s a b h =
     let q : b ≡ 0 = ap (λ (e : Exp). e .1) z in
     h (omega arith)) _ _
 
-put-other : {c x y : ℕ} {m : Node Exp} (s : ℕ) (e : Exp) (ns : List (Node Exp)) → Tells c x y m → (c ≡ 3 * s + 2 → ⊥)
+put-other : {c x y : ℕ} {m : Node Exp} (s : ℕ) (e : Exp) (ns : List (Node Exp)) → TellsNode c x y m → (c ≡ 3 * s + 2 → ⊥)
     → put exponents s e (m ∷ ns) ≡ npow s e ∷ m ∷ ns
 unfolding put
 put-other s e ns (is-var x p) h = refl
 put-other s e ns (is-fun f p) h = refl
 put-other s e ns (is-pow r p) h = if-neg (ℕ-discrete r s) (λ z. h (omega arith)) _ _
 
-put-like : {c x y : ℕ} {m : Node Exp} (s a b : ℕ) (ns : List (Node Exp)) → Tells c x y m → c ≡ 3 * s + 2
+put-like : {c x y : ℕ} {m : Node Exp} (s a b : ℕ) (ns : List (Node Exp)) → TellsNode c x y m → c ≡ 3 * s + 2
     → put exponents s (a, b) (m ∷ ns) ≡ npow s (x + a, y + b) ∷ ns
 unfolding put exponents more alone
 put-like s a b ns (is-var x p) h = absurd (omega arith)
@@ -97,14 +97,14 @@ push-other w base (suc n) s a b h k =
     ∙ sym (push-some _ s a b h ∙ put-other s (a, b) (stack w base n) (tells _ _ _) k)
 
 -- dropped
-pub push-dropped : (w : List ℕ) (base n s a b : ℕ) → n ≤ NODES → a + b ≡ 0 → Took base n (npow s (a, b) ∷ []) w w (Count n)
-unfolding Holds pushes
+pub push-dropped : (w : List ℕ) (base n s a b : ℕ) → n ≤ NODES → a + b ≡ 0 → Pushes base n (npow s (a, b) ∷ []) w w (Count n)
+unfolding Stacked pushes
 push-dropped w base n s a b few h =
     record { holds = (few, sym (push-none (stack w base n) s a b h)); kept = kept-self base SIDE w }
 
 -- stored
 pub push-stored : (w v : List ℕ) (base n s a b : ℕ) (r : Pushed) → (a + b ≡ 0 → ⊥) → (topCode w base n ≡ 3 * s + 2 → ⊥)
-    → Became base (nodeOf (3 * s + 2) a b ∷ stack w base n) w v r → Took base n (npow s (a, b) ∷ []) w v r
+    → Became base (nodeOf (3 * s + 2) a b ∷ stack w base n) w v r → Pushes base n (npow s (a, b) ∷ []) w v r
 unfolding pushes
 push-stored w v base n s a b r h k g = became-as (push-other w base n s a b h k) g
 
@@ -119,8 +119,8 @@ like-pushed w base n s a b k h =
 
 pub push-added : (w v : List ℕ) (base n s a b : ℕ) → Room base n w → (a + b ≡ 0 → ⊥) → topCode w base n ≡ 3 * s + 2
     → v ≡ withNode w (base + 3 * (n - 1)) (3 * s + 2) (getD w (base + 3 * (n - 1) + 1) 0 + a) (getD w (base + 3 * (n - 1) + 2) 0 + b)
-    → Took base n (npow s (a, b) ∷ []) w v (Count n)
-unfolding topCode Holds pushes
+    → Pushes base n (npow s (a, b) ∷ []) w v (Count n)
+unfolding topCode Stacked pushes
 push-added w v base zero s a b room h k e = absurd (omega arith)
 push-added w v base (suc n) s a b room h k e =
     let down : suc n - 1 ≡ n = omega arith in
@@ -134,18 +134,18 @@ push-added w v base (suc n) s a b room h k e =
 -- ---- any node
 
 module _ (w v : List ℕ) (base n : ℕ) (r : Pushed) (m : Item) where
-  pub push-variable : (x : ℕ) → m ≡ Variable x → Became base (nodeOf (3 * x) 0 0 ∷ stack w base n) w v r → Took base n (told m ∷ []) w v r
-  unfolding told push pushes
+  pub push-variable : (x : ℕ) → m ≡ Variable x → Became base (nodeOf (3 * x) 0 0 ∷ stack w base n) w v r → Pushes base n (node-told m ∷ []) w v r
+  unfolding node-told push pushes
   push-variable x e g = rw e (became-as (ap (λ t. t ∷ stack w base n) (var-told x 0 0)) g)
 
-  pub push-symbol : (f : ℕ) → m ≡ Symbol f → Became base (nodeOf (3 * f + 1) 0 0 ∷ stack w base n) w v r → Took base n (told m ∷ []) w v r
-  unfolding told push pushes
+  pub push-symbol : (f : ℕ) → m ≡ Symbol f → Became base (nodeOf (3 * f + 1) 0 0 ∷ stack w base n) w v r → Pushes base n (node-told m ∷ []) w v r
+  unfolding node-told push pushes
   push-symbol f e g = rw e (became-as (ap (λ t. t ∷ stack w base n) (fun-told f 0 0)) g)
 
-  pub push-raised : (s a b : ℕ) → m ≡ Power s a b → Took base n (npow s (a, b) ∷ []) w v r → Took base n (told m ∷ []) w v r
-  unfolding told
+  pub push-raised : (s a b : ℕ) → m ≡ Power s a b → Pushes base n (npow s (a, b) ∷ []) w v r → Pushes base n (node-told m ∷ []) w v r
+  unfolding node-told
   push-raised s a b e g = rw e g
 
-pub power-fits : (m : Item) (s a b : ℕ) (ns : List (Node Exp)) (bound : ℕ) → m ≡ Power s a b → load (told m ∷ ns) < bound → a + b + load ns < bound
-unfolding told load
+pub power-fits : (m : Item) (s a b : ℕ) (ns : List (Node Exp)) (bound : ℕ) → m ≡ Power s a b → load (node-told m ∷ ns) < bound → a + b + load ns < bound
+unfolding node-told load
 power-fits m s a b ns bound e h = rw e at h

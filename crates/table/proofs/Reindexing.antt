@@ -6,7 +6,7 @@ use native.Mathlib.Omega.{arith}
 use Rattle.patterns.specs.Term.{npow}
 use Rattle.patterns.specs.First.{Exp, shift}
 use Rattle.table.specs.Nodes.{load}
-use Rattle.table.specs.Sides.{told, Reindexed}
+use Rattle.table.specs.Sides.{node-told, Reindexed}
 use Rattle.table.specs.declared.Item.{Item}
 use Rattle.table.specs.declared.Item.the-variants.{Variable, Symbol, Power}
 
@@ -17,7 +17,7 @@ small-product a i p q =
     omega (arith, mul-le-mul u v)
 
 pub reindexed-power : (s a b i j x y : ℕ) → x ≡ a * i → y ≡ a * j → x < 2 ^ 32 → y < 2 ^ 32 → b < 65536 → Reindexed s a b i j (Power s x (y + b))
-unfolding told shift load
+unfolding node-told shift load
 reindexed-power s a b i j x y p q u v l = record {
   node = ap₂ (λ x y. npow s (x, y + b)) p q;
   light = omega arith;
@@ -25,8 +25,8 @@ reindexed-power s a b i j x y p q u v l = record {
 
 -- ---- one answer
 
-power-inj : (s a b r x y : ℕ) → told (Power s a b) ≡ told (Power r x y) → Power s a b ≡ Power r x y
-unfolding told
+power-inj : (s a b r x y : ℕ) → node-told (Power s a b) ≡ node-told (Power r x y) → Power s a b ≡ Power r x y
+unfolding node-told
 power-inj s a b r x y e =
     let d : _≡_ {A = Exp} (a, b) (x, y) = cc in
     let o : s ≡ r = cc in
@@ -35,8 +35,8 @@ power-inj s a b r x y e =
     cc
 
 -- an item is told by its node
-pub told-inj : (r t : Item) → told r ≡ told t → r ≡ t
-unfolding told
+pub told-inj : (r t : Item) → node-told r ≡ node-told t → r ≡ t
+unfolding node-told
 told-inj (Variable x) (Variable y) e = cc
 told-inj (Variable x) (Symbol g) e = cc
 told-inj (Variable x) (Power r c d) e = cc

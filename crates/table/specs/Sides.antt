@@ -14,15 +14,15 @@ use Rattle.table.specs.declared.Pushed.{Pushed}
 use Rattle.table.specs.declared.Pushed.the-variants.{Count, NoRoom}
 
 -- the node that the code hands over
-unfoldable pub told : Item → Node Exp
-told (Variable x) = nvar x
-told (Symbol f) = nfun f
-told (Power s a b) = npow s (a, b)
+unfoldable pub node-told : Item → Node Exp
+node-told (Variable x) = nvar x
+node-told (Symbol f) = nfun f
+node-told (Power s a b) = npow s (a, b)
 
 -- a power of s reindexed by (i, j), with numbers far below what a word holds
 pub record Reindexed (s a b i j : ℕ) (r : Item) : Type 0 where
-  pub node : told r ≡ npow s (shift (i, j) (a, b))
-  pub light : load (told r ∷ []) < 2 ^ 34
+  pub node : node-told r ≡ npow s (shift (i, j) (a, b))
+  pub light : load (node-told r ∷ []) < 2 ^ 34
 
 -- the side at `base` lies within the table, and n nodes are no more than it can hold
 pub record Room (base n : ℕ) (w : List ℕ) : Type 0 where
@@ -36,15 +36,15 @@ pub record Kept (base room : ℕ) (w after : List ℕ) : Type 0 where
   pub high : (k : ℕ) → base + room ≤ k → getD after k 0 ≡ getD w k 0
 
 -- the answer for a stack that is wanted: it stands at `base`, or has more than 1,024 nodes
-unfoldable pub Holds : ℕ → List (Node Exp) → List ℕ → Pushed → Type 0
-Holds base wanted after (Count k) = (k ≤ NODES) × (stack after base k ≡ wanted)
-Holds base wanted after NoRoom = NODES < length wanted
+unfoldable pub Stacked : ℕ → List (Node Exp) → List ℕ → Pushed → Type 0
+Stacked base wanted after (Count k) = (k ≤ NODES) × (stack after base k ≡ wanted)
+Stacked base wanted after NoRoom = NODES < length wanted
 
 -- the side at `base` became the stack that is wanted, or has no room for it, and nothing else has changed
 pub record Became (base : ℕ) (wanted : List (Node Exp)) (w after : List ℕ) (r : Pushed) : Type 0 where
-  pub holds : Holds base wanted after r
+  pub holds : Stacked base wanted after r
   pub kept : Kept base SIDE w after
 
 -- the nodes ms were pushed, one after the other, on a side of n nodes
-abbrev pub Took : ℕ → ℕ → List (Node Exp) → List ℕ → List ℕ → Pushed → Type 0
-Took base n ms w after r = Became base (pushes exponents (stack w base n) ms) w after r
+abbrev pub Pushes : ℕ → ℕ → List (Node Exp) → List ℕ → List ℕ → Pushed → Type 0
+Pushes base n ms w after r = Became base (pushes exponents (stack w base n) ms) w after r

@@ -5,7 +5,7 @@ ghost use Prim.Native.Nat.{_+_, _*_, _<_, _≤_, _^_};
 ghost use lib.ListN.{length, replicate};
 ghost use Rattle.patterns.specs.Term.{npow};
 ghost use Rattle.table.specs.Nodes.{nodeOf, nodeAt, withNode, stack, side, load, topCode};
-ghost use Rattle.table.specs.Sides.{told, Reindexed, Room, Became, Took};
+ghost use Rattle.table.specs.Sides.{node-told, Reindexed, Room, Became, Pushes};
 ghost use Rattle.table.specs.Answer.{Says};
 
 // The places of the table: where each rule begins, where each line's left begins, and where its right does; the words of a filling that
@@ -99,7 +99,7 @@ fn top_code(w: &[u64], base: usize, n: usize) -> u64
 fn push_power(w: &mut [u64], base: usize, n: usize, s: u16, a: u64, b: u64) -> Pushed
     requires { ⌜ Room base n (now w) ⌝ }
     requires { ⌜ a + b + load (stack (now w) base n) < 2 ^ 64 ⌝ }
-    ensures { λ r. ⌜ Took base n (npow s (a, b) ∷ []) (now (w .entry)) (now (w .exit)) r ⌝ }
+    ensures { λ r. ⌜ Pushes base n (npow s (a, b) ∷ []) (now (w .entry)) (now (w .exit)) r ⌝ }
 {
     if a + b == 0 {
         return Pushed::Count(n);
@@ -118,8 +118,8 @@ fn push_power(w: &mut [u64], base: usize, n: usize, s: u16, a: u64, b: u64) -> P
 // A node pushed on a side that holds n.
 pub fn push(w: &mut [u64], base: usize, n: usize, node: Item) -> Pushed
     requires { ⌜ Room base n (now w) ⌝ }
-    requires { ⌜ load (told node ∷ stack (now w) base n) < 2 ^ 64 ⌝ }
-    ensures { λ r. ⌜ Took base n (told node ∷ []) (now (w .entry)) (now (w .exit)) r ⌝ }
+    requires { ⌜ load (node-told node ∷ stack (now w) base n) < 2 ^ 64 ⌝ }
+    ensures { λ r. ⌜ Pushes base n (node-told node ∷ []) (now (w .entry)) (now (w .exit)) r ⌝ }
 {
     match node {
         Item::Variable(x) => store(w, base, n, 3 * (x as u64), 0, 0),

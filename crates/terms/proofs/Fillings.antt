@@ -2,12 +2,12 @@
 use Prim.Native.Nat.{ℕ, _+_, _<_}
 use mathlib.Core.Path.{_≡_, refl}
 use mathlib.Core.List.{List, [], _∷_}
-use Rattle.fields.specs.declared.Cursor.{Cursor}
+use Rattle.fields.specs.declared.Walker.{Walker}
 use Rattle.fields.specs.declared.Walk.{Walk}
 use Rattle.fields.specs.declared.Walk.the-variants.{On}
 use Rattle.fields.specs.Source.{Source}
 use Rattle.fields.specs.Kinds.{from-to}
-use Rattle.fields.specs.Kinds.{Kind as kind}
+use Rattle.fields.specs.Kinds.{FieldKind as kind}
 use Rattle.fields.specs.Grammar.{field}
 use Rattle.fields.specs.Run.{Ran}
 use Rattle.fields.proofs.Many.{Rounds}
@@ -20,7 +20,7 @@ unfolding pairs-of
 pairs-rounds ar = record { none = λ least. refl; more = λ n least. refl }
 
 -- a variable in a file is below 64
-pub pair-small : {src : Source} (ar : ℕ → ℕ) (least : ℕ) {c d : Cursor} {ws bs ws₁ bs₁ : List ℕ} {r : Walk} {x : ℕ}
+pub pair-small : {src : Source} (ar : ℕ → ℕ) (least : ℕ) {c d : Walker} {ws bs ws₁ bs₁ : List ℕ} {r : Walk} {x : ℕ}
     → Ran src (a-pair ar least) c ws bs firstOf r ws₁ bs₁ → r ≡ On x d → x < 64
 unfolding a-pair Always
 pair-small ar least h e =

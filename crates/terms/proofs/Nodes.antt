@@ -8,13 +8,13 @@ use mathlib.Core.Logic.{_≢_}
 use native.Mathlib.Omega.{arith}
 use borrow.Author.Tests.{eq-eqb, ne-eqb}
 use lib.Dec.{eqb}
-use Rattle.fields.specs.declared.Cursor.{Cursor}
+use Rattle.fields.specs.declared.Walker.{Walker}
 use Rattle.fields.specs.declared.Walk.{Walk}
 use Rattle.fields.specs.declared.Walk.the-variants.{On, No}
 use Rattle.fields.specs.Source.{Source}
 use Rattle.patterns.specs.Term.{nil, cons}
 use Rattle.fields.specs.Kinds.{any, node}
-use Rattle.fields.specs.Kinds.{Kind as kind}
+use Rattle.fields.specs.Kinds.{FieldKind as kind}
 use Rattle.fields.specs.Grammar.{Grammar, bind, field}
 use Rattle.fields.specs.Run.{Ran}
 use Rattle.fields.proofs.Many.{Rounds}
@@ -23,7 +23,7 @@ use Rattle.fields.proofs.Always.{Always, always-bind, always-then, always-hande
 use Rattle.grammar.specs.Terms.{Grown, GrownAll, a-symbol, a-raise, a-variable, an-applied, a-raised, a-node, a-term, args-of}
 use Rattle.terms.specs.Values.{leftOf}
 
-module _ {src : Source} (deep : ℕ) (ar : ℕ → ℕ) (end least above left : ℕ) {c : Cursor} {ws bs : List ℕ} where
+module _ {src : Source} (deep : ℕ) (ar : ℕ → ℕ) (end least above left : ℕ) {c : Walker} {ws bs : List ℕ} where
   pub term-none : left ≡ 0 → Ran src (a-term deep ar end least above left) c ws bs leftOf (No 6 c) ws bs
   unfolding a-term bind field
   term-none h = go deep
@@ -32,7 +32,7 @@ module _ {src : Source} (deep : ℕ) (ar : ℕ → ℕ) (end least above left : 
       go zero = ran-spent kind.tag (node least 0) _ c ws bs refl
       go (suc deep) = ran-spent kind.tag (node least left) _ c ws bs (eq-eqb left 0 h)
 
-pub term-some : {src : Source} (deep : ℕ) (ar : ℕ → ℕ) (end least above left : ℕ) {c : Cursor} {ws bs ws₁ bs₁ : List ℕ} {r : Walk}
+pub term-some : {src : Source} (deep : ℕ) (ar : ℕ → ℕ) (end least above left : ℕ) {c : Walker} {ws bs ws₁ bs₁ : List ℕ} {r : Walk}
     → left ≢ 0 → left ≤ deep
     → ((d : ℕ) → left - 1 ≤ d
     → Ran src (bind (field kind.tag (node least left)) (a-node (λ s k. a-term d ar end 0 s k) ar end above (left - 1))) c ws bs leftOf r ws₁ bs₁)
@@ -108,6 +108,6 @@ term-falls (suc deep) ar end least above left =
     (a-node (λ s k. a-term deep ar end 0 s k) ar end above (left - 1) n)
     (node-falls (λ s k. a-term deep ar end 0 s k) (λ s k. term-falls deep ar end 0 s k) ar end above (left - 1) n))
 
-pub term-left : {src : Source} (deep : ℕ) (ar : ℕ → ℕ) (end least above left : ℕ) {c d : Cursor} {ws bs ws₁ bs₁ : List ℕ}
+pub term-left : {src : Source} (deep : ℕ) (ar : ℕ → ℕ) (end least above left : ℕ) {c d : Walker} {ws bs ws₁ bs₁ : List ℕ}
     {r : Walk} {k : ℕ} → Ran src (a-term deep ar end least above left) c ws bs leftOf r ws₁ bs₁ → r ≡ On k d → k ≤ left
 term-left deep ar end least above left h e = always-handed h e (λ n. n ≤ left) (term-falls deep ar end least above left)

@@ -3,12 +3,12 @@ use Prim.Native.Nat.{ℕ, _+_, _*_}
 use mathlib.Core.List.{List}
 use mathlib.Core.Bool.{Bool, cond}
 use lib.Dec.{ltb}
-use Rattle.fields.specs.declared.Cursor.{Cursor}
+use Rattle.fields.specs.declared.Walker.{Walker}
 use Rattle.fields.specs.Source.{fieldAt, start}
 use Rattle.fields.specs.Grammar.{onField}
 
--- the number at a cursor, or another where there is none
-unfoldable pub numberAt : List ℕ → List ℕ → ℕ → Cursor → ℕ → ℕ
+-- the number at a walker, or another where there is none
+unfoldable pub numberAt : List ℕ → List ℕ → ℕ → Walker → ℕ → ℕ
 numberAt s l w c other = onField (fieldAt s l w c) (λ v. v) (λ m. other)
 
 -- 01: "symbol count 8 bits; each arity 4". A symbol that is not below the count has the arity 16.

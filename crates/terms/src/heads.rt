@@ -1,13 +1,13 @@
 // The fields at the head of a node: a symbol, a power's symbol with its numbers, a variable.
 use crate::Mode;
 use crate::arity;
-use fields::Cursor;
 use fields::Field;
 use fields::Walk;
+use fields::Walker;
 ghost use mathlib.Core.Path.{_≡_};
 ghost use mathlib.Core.Bool.{cond};
 ghost use lib.Dec.{eqb};
-ghost use Rattle.fields.specs.Source.{from};
+ghost use Rattle.fields.specs.Source.{source};
 ghost use Rattle.fields.specs.Run.{Ran};
 ghost use Rattle.terms.specs.Arity.{arityAt};
 ghost use Rattle.grammar.specs.Terms.{a-symbol, a-unary, an-exponent, a-raise, a-variable};
@@ -21,9 +21,9 @@ pub fn symbol(
     l: &[u16],
     words: &mut [u16],
     bytes: &mut [u8],
-    c: Cursor,
+    c: Walker,
 ) -> Walk
-    ensures { λ r. ⌜ Ran (from (now (s .entry)) (now (l .entry))) (a-symbol (arityAt (now (book .entry)) (now (l .entry)) (mode .listed))) c (now (words .entry)) (now (bytes .entry)) (arityAt (now (book .entry)) (now (l .entry)) (mode .listed)) r (now (words .exit)) (now (bytes .exit)) ⌝ }
+    ensures { λ r. ⌜ Ran (source (now (s .entry)) (now (l .entry))) (a-symbol (arityAt (now (book .entry)) (now (l .entry)) (mode .listed))) c (now (words .entry)) (now (bytes .entry)) (arityAt (now (book .entry)) (now (l .entry)) (mode .listed)) r (now (words .exit)) (now (bytes .exit)) ⌝ }
 {
     match c.look(8, s, l) {
         Field::Bad(m) => Walk::No(m, c),
@@ -49,10 +49,10 @@ fn unary(
     l: &[u16],
     words: &mut [u16],
     bytes: &mut [u8],
-    c: Cursor,
+    c: Walker,
     above: usize,
 ) -> Walk
-    ensures { λ r. ⌜ Ran (from (now (s .entry)) (now (l .entry))) (a-unary (arityAt (now (book .entry)) (now (l .entry)) (mode .listed)) above) c (now (words .entry)) (now (bytes .entry)) (λ v. v) r (now (words .exit)) (now (bytes .exit)) ⌝ }
+    ensures { λ r. ⌜ Ran (source (now (s .entry)) (now (l .entry))) (a-unary (arityAt (now (book .entry)) (now (l .entry)) (mode .listed)) above) c (now (words .entry)) (now (bytes .entry)) (λ v. v) r (now (words .exit)) (now (bytes .exit)) ⌝ }
 {
     match c.look(8, s, l) {
         Field::Bad(m) => Walk::No(m, c),
@@ -79,8 +79,8 @@ fn least_beside(a: usize) -> u16
 }
 
 // The numbers a and b of a power, not both 0.
-fn exponent(end: u16, s: &[u8], l: &[u16], words: &mut [u16], bytes: &mut [u8], c: Cursor) -> Walk
-    ensures { λ r. ⌜ Ran (from (now (s .entry)) (now (l .entry))) (an-exponent end) c (now (words .entry)) (now (bytes .entry)) secondOf r (now (words .exit)) (now (bytes .exit)) ⌝ }
+fn exponent(end: u16, s: &[u8], l: &[u16], words: &mut [u16], bytes: &mut [u8], c: Walker) -> Walk
+    ensures { λ r. ⌜ Ran (source (now (s .entry)) (now (l .entry))) (an-exponent end) c (now (words .entry)) (now (bytes .entry)) secondOf r (now (words .exit)) (now (bytes .exit)) ⌝ }
 {
     match c.take(12, 0, end, 4, s, l, words, bytes) {
         Walk::No(m, d) => Walk::No(m, d),
@@ -99,10 +99,10 @@ pub fn raise(
     l: &[u16],
     words: &mut [u16],
     bytes: &mut [u8],
-    c: Cursor,
+    c: Walker,
     above: usize,
 ) -> Walk
-    ensures { λ r. ⌜ Ran (from (now (s .entry)) (now (l .entry))) (a-raise (arityAt (now (book .entry)) (now (l .entry)) (mode .listed)) (mode .end) above) c (now (words .entry)) (now (bytes .entry)) firstOf r (now (words .exit)) (now (bytes .exit)) ⌝ }
+    ensures { λ r. ⌜ Ran (source (now (s .entry)) (now (l .entry))) (a-raise (arityAt (now (book .entry)) (now (l .entry)) (mode .listed)) (mode .end) above) c (now (words .entry)) (now (bytes .entry)) firstOf r (now (words .exit)) (now (bytes .exit)) ⌝ }
 {
     match unary(mode, book, s, l, words, bytes, c, above) {
         Walk::No(m, d) => Walk::No(m, d),
@@ -119,10 +119,10 @@ pub fn variable(
     l: &[u16],
     words: &mut [u16],
     bytes: &mut [u8],
-    c: Cursor,
+    c: Walker,
     left: usize,
 ) -> Walk
-    ensures { λ r. ⌜ Ran (from (now (s .entry)) (now (l .entry))) (a-variable left) c (now (words .entry)) (now (bytes .entry)) leftOf r (now (words .exit)) (now (bytes .exit)) ⌝ }
+    ensures { λ r. ⌜ Ran (source (now (s .entry)) (now (l .entry))) (a-variable left) c (now (words .entry)) (now (bytes .entry)) leftOf r (now (words .exit)) (now (bytes .exit)) ⌝ }
 {
     match c.take(6, 0, 64, 4, s, l, words, bytes) {
         Walk::No(m, d) => Walk::No(m, d),

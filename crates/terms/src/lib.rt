@@ -1,13 +1,13 @@
 // The walk over terms and fillings, packed or listed: it tests each field, and passes it into both outputs.
 mod heads;
 
-use fields::Cursor;
 use fields::Field;
 use fields::Walk;
+use fields::Walker;
 ghost use mathlib.Core.Path.{_≡_};
 ghost use Prim.Native.Nat.{ℕ, _≤_};
 ghost use mathlib.Core.Bool.{false};
-ghost use Rattle.fields.specs.Source.{from};
+ghost use Rattle.fields.specs.Source.{source};
 ghost use Rattle.fields.specs.Run.{Ran};
 ghost use Rattle.terms.specs.Arity.{numberAt, arityAt};
 ghost use Rattle.grammar.specs.Terms.{an-applied, a-raised, a-term, args-of, any-term, root-term, a-pair, pairs-of, a-filling};
@@ -19,8 +19,8 @@ pub struct Mode {
     pub end: u16,
 }
 
-// The number of w bits at a cursor, or another where there is none.
-fn number(book: &[u8], l: &[u16], w: usize, c: Cursor, other: u16) -> u16
+// The number of w bits at a walker, or another where there is none.
+fn number(book: &[u8], l: &[u16], w: usize, c: Walker, other: u16) -> u16
     ensures { λ r. ⌜ r ≡ numberAt (now (book .entry)) (now (l .entry)) w c other ⌝ }
 {
     match c.look(w, book, l) {
@@ -33,12 +33,12 @@ fn number(book: &[u8], l: &[u16], w: usize, c: Cursor, other: u16) -> u16
 pub fn arity(book: &[u8], l: &[u16], listed: bool, f: u16) -> u16
     ensures { λ r. ⌜ r ≡ arityAt (now (book .entry)) (now (l .entry)) listed f ⌝ }
 {
-    let first = Cursor::first(listed);
+    let first = Walker::first(listed);
     if f >= number(book, l, 8, first, 0) {
         return 16;
     }
     let k = f as usize;
-    let own = Cursor {
+    let own = Walker {
         bit: 8 + 4 * k,
         n: 1 + k,
         listed,
@@ -46,7 +46,7 @@ pub fn arity(book: &[u8], l: &[u16], listed: bool, f: u16) -> u16
     number(book, l, 4, own, 16)
 }
 
-// The term at a cursor, of at most `left` nodes: the nodes still allowed behind it.
+// The term at a walker, of at most `left` nodes: the nodes still allowed behind it.
 fn term(
     mode: Mode,
     book: &[u8],
@@ -54,12 +54,12 @@ fn term(
     l: &[u16],
     words: &mut [u16],
     bytes: &mut [u8],
-    c: Cursor,
+    c: Walker,
     least: u16,
     above: usize,
     left: usize,
 ) -> Walk
-    ensures { λ r. ⌜ ((deep : ℕ) → left ≤ deep → Ran (from (now (s .entry)) (now (l .entry))) (a-term deep (arityAt (now (book .entry)) (now (l .entry)) (mode .listed)) (mode .end) least above left) c (now (words .entry)) (now (bytes .entry)) leftOf r (now (words .exit)) (now (bytes .exit))) ⌝ }
+    ensures { λ r. ⌜ ((deep : ℕ) → left ≤ deep → Ran (source (now (s .entry)) (now (l .entry))) (a-term deep (arityAt (now (book .entry)) (now (l .entry)) (mode .listed)) (mode .end) least above left) c (now (words .entry)) (now (bytes .entry)) leftOf r (now (words .exit)) (now (bytes .exit))) ⌝ }
 {
     if left == 0 {
         return Walk::No(6, c);
@@ -82,10 +82,10 @@ fn applied(
     l: &[u16],
     words: &mut [u16],
     bytes: &mut [u8],
-    c: Cursor,
+    c: Walker,
     left: usize,
 ) -> Walk
-    ensures { λ r. ⌜ ((deep : ℕ) → left ≤ deep → Ran (from (now (s .entry)) (now (l .entry))) (an-applied (λ f k. a-term deep (arityAt (now (book .entry)) (now (l .entry)) (mode .listed)) (mode .end) 0 f k) (arityAt (now (book .entry)) (now (l .entry)) (mode .listed)) left) c (now (words .entry)) (now (bytes .entry)) leftOf r (now (words .exit)) (now (bytes .exit))) ⌝ }
+    ensures { λ r. ⌜ ((deep : ℕ) → left ≤ deep → Ran (source (now (s .entry)) (now (l .entry))) (an-applied (λ f k. a-term deep (arityAt (now (book .entry)) (now (l .entry)) (mode .listed)) (mode .end) 0 f k) (arityAt (now (book .entry)) (now (l .entry)) (mode .listed)) left) c (now (words .entry)) (now (bytes .entry)) leftOf r (now (words .exit)) (now (bytes .exit))) ⌝ }
 {
     match heads::symbol(mode, book, s, l, words, bytes, c) {
         Walk::No(m, d) => Walk::No(m, d),
@@ -101,11 +101,11 @@ fn raised(
     l: &[u16],
     words: &mut [u16],
     bytes: &mut [u8],
-    c: Cursor,
+    c: Walker,
     above: usize,
     left: usize,
 ) -> Walk
-    ensures { λ r. ⌜ ((deep : ℕ) → left ≤ deep → Ran (from (now (s .entry)) (now (l .entry))) (a-raised (λ f k. a-term deep (arityAt (now (book .entry)) (now (l .entry)) (mode .listed)) (mode .end) 0 f k) (arityAt (now (book .entry)) (now (l .entry)) (mode .listed)) (mode .end) above left) c (now (words .entry)) (now (bytes .entry)) leftOf r (now (words .exit)) (now (bytes .exit))) ⌝ }
+    ensures { λ r. ⌜ ((deep : ℕ) → left ≤ deep → Ran (source (now (s .entry)) (now (l .entry))) (a-raised (λ f k. a-term deep (arityAt (now (book .entry)) (now (l .entry)) (mode .listed)) (mode .end) 0 f k) (arityAt (now (book .entry)) (now (l .entry)) (mode .listed)) (mode .end) above left) c (now (words .entry)) (now (bytes .entry)) leftOf r (now (words .exit)) (now (bytes .exit))) ⌝ }
 {
     match heads::raise(mode, book, s, l, words, bytes, c, above) {
         Walk::No(m, d) => Walk::No(m, d),
@@ -121,11 +121,11 @@ fn args(
     l: &[u16],
     words: &mut [u16],
     bytes: &mut [u8],
-    c: Cursor,
+    c: Walker,
     n: usize,
     left: usize,
 ) -> Walk
-    ensures { λ r. ⌜ ((deep : ℕ) → left ≤ deep → Ran (from (now (s .entry)) (now (l .entry))) (args-of (λ k. a-term deep (arityAt (now (book .entry)) (now (l .entry)) (mode .listed)) (mode .end) 0 256 k) n left) c (now (words .entry)) (now (bytes .entry)) leftOfAll r (now (words .exit)) (now (bytes .exit))) ⌝ }
+    ensures { λ r. ⌜ ((deep : ℕ) → left ≤ deep → Ran (source (now (s .entry)) (now (l .entry))) (args-of (λ k. a-term deep (arityAt (now (book .entry)) (now (l .entry)) (mode .listed)) (mode .end) 0 256 k) n left) c (now (words .entry)) (now (bytes .entry)) leftOfAll r (now (words .exit)) (now (bytes .exit))) ⌝ }
 {
     let mut at = c;
     let mut more = n;
@@ -152,9 +152,9 @@ pub fn any_term(
     l: &[u16],
     words: &mut [u16],
     bytes: &mut [u8],
-    c: Cursor,
+    c: Walker,
 ) -> Walk
-    ensures { λ r. ⌜ Ran (from (now (s .entry)) (now (l .entry))) (any-term (arityAt (now (book .entry)) (now (l .entry)) false)) c (now (words .entry)) (now (bytes .entry)) leftOf r (now (words .exit)) (now (bytes .exit)) ⌝ }
+    ensures { λ r. ⌜ Ran (source (now (s .entry)) (now (l .entry))) (any-term (arityAt (now (book .entry)) (now (l .entry)) false)) c (now (words .entry)) (now (bytes .entry)) leftOf r (now (words .exit)) (now (bytes .exit)) ⌝ }
 {
     let mode = Mode {
         listed: false,
@@ -171,9 +171,9 @@ pub fn root_term(
     l: &[u16],
     words: &mut [u16],
     bytes: &mut [u8],
-    c: Cursor,
+    c: Walker,
 ) -> Walk
-    ensures { λ r. ⌜ Ran (from (now (s .entry)) (now (l .entry))) (root-term (arityAt (now (book .entry)) (now (l .entry)) listed)) c (now (words .entry)) (now (bytes .entry)) leftOf r (now (words .exit)) (now (bytes .exit)) ⌝ }
+    ensures { λ r. ⌜ Ran (source (now (s .entry)) (now (l .entry))) (root-term (arityAt (now (book .entry)) (now (l .entry)) listed)) c (now (words .entry)) (now (bytes .entry)) leftOf r (now (words .exit)) (now (bytes .exit)) ⌝ }
 {
     let mode = Mode { listed, end: 1 };
     term(mode, book, s, l, words, bytes, c, 1, 256, 256)
@@ -186,10 +186,10 @@ fn pair(
     l: &[u16],
     words: &mut [u16],
     bytes: &mut [u8],
-    c: Cursor,
+    c: Walker,
     least: u16,
 ) -> Walk
-    ensures { λ r. ⌜ Ran (from (now (s .entry)) (now (l .entry))) (a-pair (arityAt (now (book .entry)) (now (l .entry)) false) least) c (now (words .entry)) (now (bytes .entry)) firstOf r (now (words .exit)) (now (bytes .exit)) ⌝ }
+    ensures { λ r. ⌜ Ran (source (now (s .entry)) (now (l .entry))) (a-pair (arityAt (now (book .entry)) (now (l .entry)) false) least) c (now (words .entry)) (now (bytes .entry)) firstOf r (now (words .exit)) (now (bytes .exit)) ⌝ }
 {
     match c.take(6, least, 64, 4, s, l, words, bytes) {
         Walk::No(m, d) => Walk::No(m, d),
@@ -207,11 +207,11 @@ fn pairs(
     l: &[u16],
     words: &mut [u16],
     bytes: &mut [u8],
-    c: Cursor,
+    c: Walker,
     n: usize,
     least: u16,
 ) -> Walk
-    ensures { λ r. ⌜ Ran (from (now (s .entry)) (now (l .entry))) (pairs-of (arityAt (now (book .entry)) (now (l .entry)) false) n least) c (now (words .entry)) (now (bytes .entry)) nothing r (now (words .exit)) (now (bytes .exit)) ⌝ }
+    ensures { λ r. ⌜ Ran (source (now (s .entry)) (now (l .entry))) (pairs-of (arityAt (now (book .entry)) (now (l .entry)) false) n least) c (now (words .entry)) (now (bytes .entry)) nothing r (now (words .exit)) (now (bytes .exit)) ⌝ }
 {
     let mut at = c;
     let mut next = least;
@@ -238,9 +238,9 @@ pub fn filling(
     l: &[u16],
     words: &mut [u16],
     bytes: &mut [u8],
-    c: Cursor,
+    c: Walker,
 ) -> Walk
-    ensures { λ r. ⌜ Ran (from (now (s .entry)) (now (l .entry))) (a-filling (arityAt (now (book .entry)) (now (l .entry)) false)) c (now (words .entry)) (now (bytes .entry)) nothing r (now (words .exit)) (now (bytes .exit)) ⌝ }
+    ensures { λ r. ⌜ Ran (source (now (s .entry)) (now (l .entry))) (a-filling (arityAt (now (book .entry)) (now (l .entry)) false)) c (now (words .entry)) (now (bytes .entry)) nothing r (now (words .exit)) (now (bytes .exit)) ⌝ }
 {
     match c.take(7, 0, 65, 4, s, l, words, bytes) {
         Walk::No(m, d) => Walk::No(m, d),

@@ -20,7 +20,7 @@ use Rattle.grammar.specs.Limits.{RootFits, LastFits}
 use Rattle.instances.specs.declared.Read.{Read}
 use Rattle.comparing.specs.declared.Found.{Found}
 use Rattle.comparing.specs.declared.Found.the-variants.{Fault, Good}
-use Rattle.comparing.specs.declared.Kind.the-variants.{Unfold}
+use Rattle.comparing.specs.declared.Whole.the-variants.{Unfold}
 use Rattle.comparing.specs.declared.Behind.{Behind}
 use Rattle.comparing.specs.declared.Behind.the-variants.{Pending, Nothing}
 use Rattle.comparing.specs.declared.Asked.the-variants.{Led}

@@ -21,7 +21,7 @@ use Rattle.table.specs.Places.{OWN}
 use Rattle.instances.specs.declared.Read.{Read}
 use Rattle.comparing.specs.declared.Found.{Found}
 use Rattle.comparing.specs.declared.Found.the-variants.{Fault, Good}
-use Rattle.comparing.specs.declared.Kind.the-variants.{Unfold}
+use Rattle.comparing.specs.declared.Whole.the-variants.{Unfold}
 use Rattle.comparing.specs.declared.Behind.the-variants.{Judged, Nothing}
 use Rattle.begins.specs.declared.Instance.{Instance}
 use Rattle.comparing.specs.declared.Subject.the-variants.{Empty, Call, Claimed}
@@ -35,7 +35,7 @@ use Rattle.comparing.specs.Subjects.{Means}
 use Rattle.comparing.specs.Found.{Finds}
 use Rattle.comparing.specs.Rights.{lead}
 use Rattle.comparing.specs.Asked.{asked-at, checks-of, end-of, Checks}
-use Rattle.unfolds.specs.Unfoldings.{Unfolding, StopsBy, PartBy, Ends, Parts, Stops, UnfoldsBy, UnfoldAt}
+use Rattle.unfolds.specs.Unfoldings.{Unfolding, StopsBy, PartBy, Ends, PartsAt, StopsAt, UnfoldsBy, UnfoldAt}
 use Rattle.instances.proofs.Lying.{lies-front, lies-back}
 use Rattle.instances.proofs.Taking.{rest-at}
 use Rattle.begins.proofs.Frames.{below-then, below-less, kept-below, known-below, scene-below}
@@ -45,7 +45,7 @@ use Rattle.begins.proofs.Calling.{head-lies, calls-at}
 
 -- ---- the parts from j on
 
--- what `Parts` tells, and `Stops`
+-- what `PartsAt` tells, and `StopsAt`
 abbrev PartsTold : List ℕ → List ℕ → (right j count before call-at at : ℕ) → List ℕ → Found → Type 0
 PartsTold book cert right j count before call-at at w r =
     (ars : List ℕ) (B : Book Exp) (es : List (Claim Exp)) (θ : Fills Exp) (m : Mark Exp) (vs : List Pattern)
@@ -72,7 +72,7 @@ rest-calls {book} {at = at} {v = v} {vs = vs} c e = record {
 }
 
 pub parts-last : {book cert w after : List ℕ} {right j count before call at : ℕ} {r : Found} → before ≡ 0 → Ends book cert right j count call at w after r
-    → Parts book cert right j count before call at w after r
+    → PartsAt book cert right j count before call at w after r
 unfolding flatMap
 parts-last {book} {cert} {w} {after} {right} {j} {count} {before} {call} {at} {r} z e = record { told = go; below = e .below }
   where
@@ -98,7 +98,7 @@ module _ {book cert w v after : List ℕ} {j call at : ℕ} {used : Instance} {r
         let n = below-listed es (u .line) (fits .earlier) in
         read .told ars B es (U .scene .known) (length es) u (n .0) fits (lies-front cert at (use-fields u) gs lies) (n .1) .1
 
-  pub parts-fault : {right count before n p : ℕ} → before ≢ 0 → r ≡ Fault n p → Parts book cert right j count before call at w after (Fault n p)
+  pub parts-fault : {right count before n p : ℕ} → before ≢ 0 → r ≡ Fault n p → PartsAt book cert right j count before call at w after (Fault n p)
   unfolding flatMap Every
   parts-fault {right} {count} {before} {n} {p} ne q = record { told = go; below = below-then (read .below) (below-less (omega arith) (part .below)) }
     where
@@ -110,7 +110,7 @@ module _ {book cert w v after : List ℕ} {j call at : ℕ} {used : Instance} {r
           (subst (Lies cert at) (append-assoc (use-fields u) (flatMap use-fields us) (if-any use-fields last)) lies) (λ ks h. finds-stop _ h q)
 
   pub parts-on : {right count before x : ℕ} {end : List ℕ} {s : Found} → before ≢ 0 → r ≡ Good x
-      → Parts book cert right (j + 1) count (before - 1) x (used .end) after end s → Parts book cert right j count before call at w end s
+      → PartsAt book cert right (j + 1) count (before - 1) x (used .end) after end s → PartsAt book cert right j count before call at w end s
   unfolding flatMap Every
   parts-on {right} {count} {before} {x} {end} {s} ne q next = record {
     told = go;
@@ -135,7 +135,7 @@ module _ {book cert w v after : List ℕ} {j call at : ℕ} {used : Instance} {r
 -- ---- where an unfold stops
 
 pub stops-fact : {book cert w after : List ℕ} {right i count call-at at : ℕ} {r : Found} → i ≡ 0 → StopsBy book cert right Empty at w after r
-    → Stops book cert right i count call-at at w after r
+    → StopsAt book cert right i count call-at at w after r
 unfolding stops stop-number StopFits stop-fields width Means
 stops-fact {book} {cert} {w} {after} {right} {i} {count} {call-at} {at} {r} z p = record { told = go; below = p .below }
   where
@@ -146,7 +146,7 @@ stops-fact {book} {cert} {w} {after} {right} {i} {count} {call-at} {at} {r} z p 
     go ars B es θ m (v ∷ vs) U (call us last) e fits lies = absurd (omega arith)
 
 pub stops-call : {book cert w after : List ℕ} {right i count call-at at : ℕ} {r : Found} → i ≢ 0
-    → Parts book cert right 1 count (i - 1) call-at at w after r → Stops book cert right i count call-at at w after r
+    → PartsAt book cert right 1 count (i - 1) call-at at w after r → StopsAt book cert right i count call-at at w after r
 unfolding stops stop-number StopFits stop-fields
 stops-call {book} {cert} {w} {after} {right} {i} {count} {call-at} {at} {r} ne p = record { told = go; below = p .below }
   where
@@ -178,7 +178,7 @@ module _ {book cert w v : List ℕ} {left right : ℕ} (k : ℕ) {at : ℕ} {c :
     below = below-less (omega arith) (head .below);
   }
 
-  pub unfolds-on : {i end x : ℕ} {after : List ℕ} {s : Found} → r ≡ Good x → Stops book cert right i (c .value) x end v after s
+  pub unfolds-on : {i end x : ℕ} {after : List ℕ} {s : Found} → r ≡ Good x → StopsAt book cert right i (c .value) x end v after s
       → UnfoldsBy book cert left right k i end w after s
   unfolding line-checks
   unfolds-on q p = record {

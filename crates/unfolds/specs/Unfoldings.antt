@@ -79,7 +79,7 @@ pub record Ends (book cert : List ℕ) (right j count call at : ℕ) (w after : 
   pub below : Below USED w after
 
 -- all parts from j on, where `before` calls stand before the one where the unfold stops
-pub record Parts (book cert : List ℕ) (right j count before call at : ℕ) (w after : List ℕ) (r : Found) : Type 0 where
+pub record PartsAt (book cert : List ℕ) (right j count before call at : ℕ) (w after : List ℕ) (r : Found) : Type 0 where
   pub told : (ars : List ℕ) (B : Book Exp) (es : List (Claim Exp)) (θ : Fills Exp) (m : Mark Exp) (vs : List Pattern)
       → Unfolding book cert w ars B es θ right m call vs j count
       → (us : List (Use Exp Pair)) (last : Option (Use Exp Pair)) → length us ≡ before → before < length vs
@@ -88,7 +88,7 @@ pub record Parts (book cert : List ℕ) (right j count before call at : ℕ) (w 
   pub below : Below USED w after
 
 -- an unfold behind its head: where it stops, and its uses
-pub record Stops (book cert : List ℕ) (right i count call at : ℕ) (w after : List ℕ) (r : Found) : Type 0 where
+pub record StopsAt (book cert : List ℕ) (right i count call at : ℕ) (w after : List ℕ) (r : Found) : Type 0 where
   pub told : (ars : List ℕ) (B : Book Exp) (es : List (Claim Exp)) (θ : Fills Exp) (m : Mark Exp) (vs : List Pattern)
       → Unfolding book cert w ars B es θ right m call vs 1 count
       → (s : Stop Exp Pair) → stop-number s ≡ i → StopFits ars (length es) (length vs) s → Lies cert at (stop-fields s)

@@ -3,13 +3,13 @@ use begins::Instance;
 use comparing::Behind;
 use comparing::Filled;
 use comparing::Found;
-use comparing::Kind;
 use comparing::Subject;
+use comparing::Whole;
 use table::OWN;
 ghost use Prim.Native.Nat.{_+_, _≤_, _<_};
 ghost use lib.ListN.{length};
 ghost use Rattle.table.specs.Places.{WORDS, ROWS};
-ghost use Rattle.unfolds.specs.Unfoldings.{BehindStop, EndsAt, StopsBy, PartBy, EndsBy, EndsUsed, Ends, Parts, Stops, UnfoldsBy, UnfoldAt};
+ghost use Rattle.unfolds.specs.Unfoldings.{BehindStop, EndsAt, StopsBy, PartBy, EndsBy, EndsUsed, Ends, PartsAt, StopsAt, UnfoldsBy, UnfoldAt};
 
 // What stands behind the call where an unfold stops, the j-th of `count`.
 fn behind_stop(j: usize, count: usize) -> Behind
@@ -48,7 +48,7 @@ fn stop_by(
         book,
         certificate,
         w,
-        Kind::Unfold,
+        Whole::Unfold,
         15,
         right,
         Behind::Nothing,
@@ -81,7 +81,7 @@ fn part_by(
         book,
         certificate,
         w,
-        Kind::Unfold,
+        Whole::Unfold,
         j,
         used.right,
         behind,
@@ -166,7 +166,7 @@ fn parts(
     at: usize,
 ) -> Found
     requires { ⌜ (WORDS ≤ length (now w)) × (j + before ≤ 16) ⌝ }
-    ensures { λ r. ⌜ Parts (now (book .entry)) (now (certificate .entry)) right j count before call at (now (w .entry)) (now (w .exit)) r ⌝ }
+    ensures { λ r. ⌜ PartsAt (now (book .entry)) (now (certificate .entry)) right j count before call at (now (w .entry)) (now (w .exit)) r ⌝ }
 {
     if before == 0 {
         return last(book, certificate, w, right, j, count, call, at);
@@ -201,7 +201,7 @@ fn stop(
     at: usize,
 ) -> Found
     requires { ⌜ (WORDS ≤ length (now w)) × (i ≤ 15) ⌝ }
-    ensures { λ r. ⌜ Stops (now (book .entry)) (now (certificate .entry)) right i count call at (now (w .entry)) (now (w .exit)) r ⌝ }
+    ensures { λ r. ⌜ StopsAt (now (book .entry)) (now (certificate .entry)) right i count call at (now (w .entry)) (now (w .exit)) r ⌝ }
 {
     if i == 0 {
         return stop_by(book, certificate, w, right, Subject::Empty, at);
@@ -230,7 +230,7 @@ fn unfold_by(
         book,
         certificate,
         w,
-        Kind::Unfold,
+        Whole::Unfold,
         0,
         right,
         Behind::Nothing,

@@ -6,7 +6,7 @@ use mathlib.Core.Option.{none, some}
 use mathlib.Core.Logic.{_≢_}
 use borrow.Author.Tests.{eq-eqb, ne-eqb}
 use Rattle.patterns.specs.Certificate.{fact, call}
-use Rattle.fields.specs.declared.Cursor.{Cursor}
+use Rattle.fields.specs.declared.Walker.{Walker}
 use Rattle.fields.specs.declared.Walk.{Walk}
 use Rattle.fields.specs.declared.Walk.the-variants.{On}
 use Rattle.fields.specs.Source.{Source}
@@ -34,7 +34,7 @@ pub uses-many : (ar : ℕ → ℕ) (line : ℕ) → Many (uses-of ar line) (a-us
 unfolding uses-of
 uses-many ar line = record { none = λ x. refl; more = λ n x. refl }
 
-module _ {src : Source} (ar : ℕ → ℕ) (line n : ℕ) {c : Cursor} {ws bs : List ℕ} where
+module _ {src : Source} (ar : ℕ → ℕ) (line n : ℕ) {c : Walker} {ws bs : List ℕ} where
   pub stop-none : n ≡ 0 → Ran src (a-stop ar line n) c ws bs nothing (On 0 c) ws bs
   unfolding a-stop
   stop-none h = rw (at-none (a-stop ar line) fact refl n h) (ran-done _ c ws bs)

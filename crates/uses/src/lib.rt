@@ -1,18 +1,18 @@
 // The walk over the uses of a certificate's lines, and over where an unfold stops.
-use fields::Cursor;
 use fields::Walk;
+use fields::Walker;
 ghost use mathlib.Core.Path.{_≡_};
 ghost use Prim.Native.Nat.{_<_, min};
 ghost use mathlib.Core.Bool.{false};
-ghost use Rattle.fields.specs.Source.{from};
+ghost use Rattle.fields.specs.Source.{source};
 ghost use Rattle.fields.specs.Run.{Ran};
 ghost use Rattle.terms.specs.Arity.{arityAt};
 ghost use Rattle.terms.specs.Values.{secondOf, nothing};
 ghost use Rattle.grammar.specs.Certificates.{an-index, an-instance, a-use, uses-of, a-last, a-stop, a-stopped, a-stop-at};
 
 // The two numbers of an index pair: the second.
-fn index(s: &[u8], l: &[u16], words: &mut [u16], bytes: &mut [u8], c: Cursor) -> Walk
-    ensures { λ r. ⌜ Ran (from (now (s .entry)) (now (l .entry))) an-index c (now (words .entry)) (now (bytes .entry)) secondOf r (now (words .exit)) (now (bytes .exit)) ⌝ }
+fn index(s: &[u8], l: &[u16], words: &mut [u16], bytes: &mut [u8], c: Walker) -> Walk
+    ensures { λ r. ⌜ Ran (source (now (s .entry)) (now (l .entry))) an-index c (now (words .entry)) (now (bytes .entry)) secondOf r (now (words .exit)) (now (bytes .exit)) ⌝ }
 {
     match c.take(12, 0, 4096, 4, s, l, words, bytes) {
         Walk::No(m, d) => Walk::No(m, d),
@@ -27,9 +27,9 @@ fn instance(
     l: &[u16],
     words: &mut [u16],
     bytes: &mut [u8],
-    c: Cursor,
+    c: Walker,
 ) -> Walk
-    ensures { λ r. ⌜ Ran (from (now (s .entry)) (now (l .entry))) (an-instance (arityAt (now (book .entry)) (now (l .entry)) false)) c (now (words .entry)) (now (bytes .entry)) nothing r (now (words .exit)) (now (bytes .exit)) ⌝ }
+    ensures { λ r. ⌜ Ran (source (now (s .entry)) (now (l .entry))) (an-instance (arityAt (now (book .entry)) (now (l .entry)) false)) c (now (words .entry)) (now (bytes .entry)) nothing r (now (words .exit)) (now (bytes .exit)) ⌝ }
 {
     match index(s, l, words, bytes, c) {
         Walk::No(m, d) => Walk::No(m, d),
@@ -44,10 +44,10 @@ pub fn use_line(
     l: &[u16],
     words: &mut [u16],
     bytes: &mut [u8],
-    c: Cursor,
+    c: Walker,
     line: u16,
 ) -> Walk
-    ensures { λ r. ⌜ Ran (from (now (s .entry)) (now (l .entry))) (a-use (arityAt (now (book .entry)) (now (l .entry)) false) line) c (now (words .entry)) (now (bytes .entry)) nothing r (now (words .exit)) (now (bytes .exit)) ⌝ }
+    ensures { λ r. ⌜ Ran (source (now (s .entry)) (now (l .entry))) (a-use (arityAt (now (book .entry)) (now (l .entry)) false) line) c (now (words .entry)) (now (bytes .entry)) nothing r (now (words .exit)) (now (bytes .exit)) ⌝ }
 {
     match c.take(8, 0, line, 4, s, l, words, bytes) {
         Walk::No(m, d) => Walk::No(m, d),
@@ -62,11 +62,11 @@ fn uses(
     l: &[u16],
     words: &mut [u16],
     bytes: &mut [u8],
-    c: Cursor,
+    c: Walker,
     line: u16,
     n: usize,
 ) -> Walk
-    ensures { λ r. ⌜ Ran (from (now (s .entry)) (now (l .entry))) (uses-of (arityAt (now (book .entry)) (now (l .entry)) false) line n) c (now (words .entry)) (now (bytes .entry)) nothing r (now (words .exit)) (now (bytes .exit)) ⌝ }
+    ensures { λ r. ⌜ Ran (source (now (s .entry)) (now (l .entry))) (uses-of (arityAt (now (book .entry)) (now (l .entry)) false) line n) c (now (words .entry)) (now (bytes .entry)) nothing r (now (words .exit)) (now (bytes .exit)) ⌝ }
 {
     if n == 0 {
         return Walk::On(0, c);
@@ -84,10 +84,10 @@ fn last(
     l: &[u16],
     words: &mut [u16],
     bytes: &mut [u8],
-    c: Cursor,
+    c: Walker,
     line: u16,
 ) -> Walk
-    ensures { λ r. ⌜ Ran (from (now (s .entry)) (now (l .entry))) (a-last (arityAt (now (book .entry)) (now (l .entry)) false) line) c (now (words .entry)) (now (bytes .entry)) nothing r (now (words .exit)) (now (bytes .exit)) ⌝ }
+    ensures { λ r. ⌜ Ran (source (now (s .entry)) (now (l .entry))) (a-last (arityAt (now (book .entry)) (now (l .entry)) false) line) c (now (words .entry)) (now (bytes .entry)) nothing r (now (words .exit)) (now (bytes .exit)) ⌝ }
 {
     match c.take(1, 0, 2, 4, s, l, words, bytes) {
         Walk::No(m, d) => Walk::No(m, d),
@@ -105,11 +105,11 @@ fn stop(
     l: &[u16],
     words: &mut [u16],
     bytes: &mut [u8],
-    c: Cursor,
+    c: Walker,
     line: u16,
     i: usize,
 ) -> Walk
-    ensures { λ r. ⌜ Ran (from (now (s .entry)) (now (l .entry))) (a-stop (arityAt (now (book .entry)) (now (l .entry)) false) line i) c (now (words .entry)) (now (bytes .entry)) nothing r (now (words .exit)) (now (bytes .exit)) ⌝ }
+    ensures { λ r. ⌜ Ran (source (now (s .entry)) (now (l .entry))) (a-stop (arityAt (now (book .entry)) (now (l .entry)) false) line i) c (now (words .entry)) (now (bytes .entry)) nothing r (now (words .exit)) (now (bytes .exit)) ⌝ }
 {
     if i == 0 {
         return Walk::On(0, c);
@@ -127,11 +127,11 @@ fn stopped(
     l: &[u16],
     words: &mut [u16],
     bytes: &mut [u8],
-    c: Cursor,
+    c: Walker,
     line: u16,
     i: usize,
 ) -> Walk
-    ensures { λ r. ⌜ Ran (from (now (s .entry)) (now (l .entry))) (a-stopped (arityAt (now (book .entry)) (now (l .entry)) false) line i) c (now (words .entry)) (now (bytes .entry)) nothing r (now (words .exit)) (now (bytes .exit)) ⌝ }
+    ensures { λ r. ⌜ Ran (source (now (s .entry)) (now (l .entry))) (a-stopped (arityAt (now (book .entry)) (now (l .entry)) false) line i) c (now (words .entry)) (now (bytes .entry)) nothing r (now (words .exit)) (now (bytes .exit)) ⌝ }
 {
     match terms::filling(book, s, l, words, bytes, c) {
         Walk::No(m, d) => Walk::No(m, d),
@@ -153,12 +153,12 @@ pub fn stop_at(
     l: &[u16],
     words: &mut [u16],
     bytes: &mut [u8],
-    c: Cursor,
+    c: Walker,
     line: u16,
     m: u16,
 ) -> Walk
     requires { ⌜ m < 256 ⌝ }
-    ensures { λ r. ⌜ Ran (from (now (s .entry)) (now (l .entry))) (a-stop-at (arityAt (now (book .entry)) (now (l .entry)) false) line m) c (now (words .entry)) (now (bytes .entry)) nothing r (now (words .exit)) (now (bytes .exit)) ⌝ }
+    ensures { λ r. ⌜ Ran (source (now (s .entry)) (now (l .entry))) (a-stop-at (arityAt (now (book .entry)) (now (l .entry)) false) line m) c (now (words .entry)) (now (bytes .entry)) nothing r (now (words .exit)) (now (bytes .exit)) ⌝ }
 {
     let least = least_stop(m);
     match c.take(4, least, m + 1, 4, s, l, words, bytes) {

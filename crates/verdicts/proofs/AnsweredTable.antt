@@ -9,30 +9,30 @@ use lib.Dec.{eqb, ltb}
 use Rattle.answers.specs.Carried.{refusal-at}
 use Rattle.answers.specs.Numbers.{Told, filled-with, refused-with}
 use Rattle.bits.specs.Packed.{packed}
-use Rattle.patterns.specs.Refusal.{Refusal, book-place, certificate-place}
-use Rattle.fields.specs.Source.{from, start}
+use Rattle.patterns.specs.Reason.{Reason, book-place, certificate-place}
+use Rattle.fields.specs.Source.{source, start}
 use Rattle.fields.specs.Grammar.{Grammar, Outcome, outcome, trace}
 use Rattle.fields.specs.Grammar.Outcome.{ok, no}
 use Rattle.fields.proofs.Refusing.{refused-few}
 use Rattle.grammar.specs.Books.{RuleBook, a-book}
 use Rattle.layout.specs.Files.{within-length, where-good, Opened, good, bad, ends-at, closed-bytes, open-bytes, closed-list, open-list, certificate-of, open-book, open-certificate}
-use Rattle.layout.specs.Answers.{Given, gives, refuses, listed, written, reading-book, writing-book, listing-beside, writing-beside, reading-certificate, writing-certificate, told}
+use Rattle.layout.specs.Answers.{Given, gives, refuses, listed, packed-given, reading-book, writing-book, listing-beside, writing-beside, reading-certificate, writing-certificate, told}
 use Rattle.answers.specs.InTable.{InTable}
 use Rattle.answers.proofs.InTable.{long-file-in-table, field-in-table, no-room-in-table}
 
 -- what a file, an operation or an answer is refused with is in the table
 abbrev pub OpenedInTable : {A : Type 0} → Opened A → Type 0
-OpenedInTable o = (r : Refusal) → o ≡ bad r → InTable r
+OpenedInTable o = (r : Reason) → o ≡ bad r → InTable r
 
 abbrev pub GivenInTable : Given → Type 0
-GivenInTable g = (r : Refusal) → g ≡ refuses r → InTable r
+GivenInTable g = (r : Reason) → g ≡ refuses r → InTable r
 
 abbrev pub ToldInTable : Told → Type 0
-ToldInTable t = (r : Refusal) → t ≡ refused-with r → InTable r
+ToldInTable t = (r : Reason) → t ≡ refused-with r → InTable r
 
 -- ---- a whole file is refused with 3 to 7
 
-same-bad : {A : Type 0} (r q : Refusal) → _≡_ {A = Opened A} (bad r) (bad q) → r ≡ q
+same-bad : {A : Type 0} (r q : Reason) → _≡_ {A = Opened A} (bad r) (bad q) → r ≡ q
 same-bad r q e = cc
 
 module _ {A : Type 0} (w : ℕ) (file : w ≤ 1) (p : Grammar A) where
@@ -45,23 +45,23 @@ module _ {A : Type 0} (w : ℕ) (file : w ≤ 1) (p : Grammar A) where
 
   pub bytes-in-table : (s : List ℕ) → OpenedInTable (open-bytes w p s)
   unfolding open-bytes
-  bytes-in-table s = go (outcome (from s []) p (start false)) refl
+  bytes-in-table s = go (outcome (source s []) p (start false)) refl
     where
       fs : List (ℕ × ℕ)
-      fs = trace (from s []) p (start false)
+      fs = trace (source s []) p (start false)
 
-      go : (o : Outcome A) → outcome (from s []) p (start false) ≡ o → OpenedInTable (closed-bytes w s o fs)
+      go : (o : Outcome A) → outcome (source s []) p (start false) ≡ o → OpenedInTable (closed-bytes w s o fs)
       go (ok a c) e = ended (ends-at s (c .bit)) a fs (c .bit)
       go (no m c) e = let n = refused-few s [] p (start false) m c e in refused m (c .bit) (n .0) (omega (arith, n .1))
 
   pub list-in-table : (l : List ℕ) → OpenedInTable (open-list w p l)
   unfolding open-list
-  list-in-table l = go (outcome (from [] l) p (start true)) refl
+  list-in-table l = go (outcome (source [] l) p (start true)) refl
     where
       fs : List (ℕ × ℕ)
-      fs = trace (from [] l) p (start true)
+      fs = trace (source [] l) p (start true)
 
-      go : (o : Outcome A) → outcome (from [] l) p (start true) ≡ o → OpenedInTable (closed-list w l o fs)
+      go : (o : Outcome A) → outcome (source [] l) p (start true) ≡ o → OpenedInTable (closed-list w l o fs)
       go (ok a c) e = ended (eqb (c .n) (length l)) a fs (c .n)
       go (no m c) e = let n = refused-few [] l p (start true) m c e in refused m (c .n) (n .0) (omega (arith, n .1))
 
@@ -75,7 +75,7 @@ certificate-in-table b s = bytes-in-table certificate-place (omega arith) (certi
 
 -- ---- the operations
 
-same-refusal : (r q : Refusal) → refuses r ≡ refuses q → r ≡ q
+same-refusal : (r q : Reason) → refuses r ≡ refuses q → r ≡ q
 same-refusal r q e = cc
 
 listed-in-table : {A : Type 0} (o : Opened A) → OpenedInTable o → GivenInTable (listed o)
@@ -90,7 +90,7 @@ module _ (w : ℕ) (file : w ≤ 1) where
   within-in-table : (most : ℕ) (s : List ℕ) (rest : Given) → GivenInTable rest → GivenInTable (within-length refuses w most s rest)
   within-in-table most s rest h = long-in-table (ltb most (length s)) rest h
 
-  written-in-table : {A : Type 0} (most : ℕ) (o : Opened A) → OpenedInTable o → GivenInTable (written w most o)
+  written-in-table : {A : Type 0} (most : ℕ) (o : Opened A) → OpenedInTable o → GivenInTable (packed-given w most o)
   written-in-table most (good a fs) h =
       long-in-table (ltb most (length (packed fs))) (gives (packed fs))
       (λ r e. let z : _≡_ {A = ℕ} 0 1 = cc in absurd (omega arith))

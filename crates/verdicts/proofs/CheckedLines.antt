@@ -9,15 +9,15 @@ use native.Mathlib.Omega.{arith}
 use lib.ListN.{length, getElem?}
 use Rattle.patterns.specs.Term.{Term}
 use Rattle.patterns.specs.Every.{Every}
-use Rattle.patterns.specs.Certificate.{Fills, Mark, Claim, Use, Stop, fact, call, Kind, unfolds, descends}
-use Rattle.patterns.specs.Refusal.{line-place}
+use Rattle.patterns.specs.Certificate.{Fills, Mark, Claim, Use, Stop, fact, call, LineKind, unfolds, descends}
+use Rattle.patterns.specs.Reason.{line-place}
 use Rattle.patterns.specs.Demand.{Demand, small, same, empty, present, level, missing}
-use Rattle.patterns.specs.Judge.{Check, check, compare, given, pending, sole, parts, stops, line-checks, place, refusal}
+use Rattle.patterns.specs.Judge.{Check, check, compare, given, pending, sole, parts, stops, line-checks, place, reason}
 use Rattle.patterns.specs.First.{Exp, Pair, one}
 use Rattle.patterns.proofs.Every.{map-listed, below-listed, every-listed, every-append, every-weaken}
 use Rattle.grammar.specs.Books.{RuleBook}
 use Rattle.grammar.specs.Limits.{RuleFits, BookFits, call-counts, UseFits, LastFits, StopFits, KindFits}
-use Rattle.answers.specs.InTable.{Column, only, Allows, Row, row, Among, a-line, at-line, unfold-rows, descent-rows, line-rows}
+use Rattle.answers.specs.InTable.{Column, only, Allows, Row, row, Among, line-number, at-line, unfold-rows, descent-rows, line-rows}
 use Rattle.answers.proofs.InTable.{among-at}
 
 -- ---- one check
@@ -46,7 +46,7 @@ module _ (rows : List Row) (w a : ℕ) where
     pub there : Named (k .demand)
 
   -- the row with this number among them, at a line
-  pub row-at : (k n : ℕ) (parts : Column) (p : ℕ) → a ≤ 254 → getElem? rows k ≡ some (row (only n) (only w) a-line parts)
+  pub row-at : (k n : ℕ) (parts : Column) (p : ℕ) → a ≤ 254 → getElem? rows k ≡ some (row (only n) (only w) line-number parts)
       → Allows parts p → At n p
   unfolding Allows
   row-at k n parts p few e h =
@@ -170,7 +170,7 @@ module _ (a : ℕ) (few : a ≤ 254) where
 -- ---- a line of either kind
 
 module _ (b : RuleBook) (book : BookFits b) (es : List (Claim Exp)) (a : ℕ) (before : a ≡ length es) (few : a ≤ 254) where
-  pub line-checks-fine : (l : Claim Exp) (k : Kind Exp Pair) → KindFits (b .arities) (call-counts (b .rules)) a k
+  pub line-checks-fine : (l : Claim Exp) (k : LineKind Exp Pair) → KindFits (b .arities) (call-counts (b .rules)) a k
       → Every (Fine (line-rows k) line-place a) (line-checks one es (b .rules) l k)
   unfolding line-checks KindFits line-rows call-counts
   line-checks-fine l (unfolds k θ s) f =
@@ -194,6 +194,6 @@ module _ (b : RuleBook) (book : BookFits b) (es : List (Claim Exp)) (a : ℕ) (b
       (fine-sides a few 2 9 2 _ _ refl (omega arith))) (fine-sides a few 3 10 3 _ _ refl (omega arith))) (fine-level a few (l .right)))))
 
   -- A line's checks give only what 01 lists for its kind.
-  pub line-checks-listed : (l : Claim Exp) (k : Kind Exp Pair) → KindFits (b .arities) (call-counts (b .rules)) a k
-      → Every (λ c. Among (line-rows k) (refusal one (place one line-place a c))) (line-checks one es (b .rules) l k)
+  pub line-checks-listed : (l : Claim Exp) (k : LineKind Exp Pair) → KindFits (b .arities) (call-counts (b .rules)) a k
+      → Every (λ c. Among (line-rows k) (reason one (place one line-place a c))) (line-checks one es (b .rules) l k)
   line-checks-listed l k f = every-weaken (λ c q. q .listed) _ (line-checks-fine l k f)

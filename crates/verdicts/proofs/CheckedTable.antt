@@ -8,10 +8,10 @@ use mathlib.Core.Option.{none, some}
 use native.Mathlib.Omega.{arith}
 use lib.ListN.{length, getElem?, length-append}
 use Rattle.patterns.specs.Every.{Every}
-use Rattle.patterns.specs.Certificate.{Mark, Claim, Kind, unfolds, descends, Line, Closing, Certificate}
-use Rattle.patterns.specs.Refusal.{Refusal, line-place, closing-place}
+use Rattle.patterns.specs.Certificate.{Mark, Claim, LineKind, unfolds, descends, Line, Closing, Certificate}
+use Rattle.patterns.specs.Reason.{Reason, line-place, closing-place}
 use Rattle.patterns.specs.Demand.{missing}
-use Rattle.patterns.specs.Judge.{Check, check, line-checks, loop-checks, closing-checks, Placed, place, refusal, checks-from, checks, FirstBroken}
+use Rattle.patterns.specs.Judge.{Check, check, line-checks, loop-checks, closing-checks, Placed, place, reason, checks-from, checks, FirstBroken}
 use Rattle.patterns.specs.First.{Exp, Pair, Pace, one}
 use Rattle.patterns.proofs.Every.{below-listed, every-rest, every-append, every-weaken, every-map}
 use Rattle.grammar.specs.Books.{RuleBook}
@@ -46,7 +46,7 @@ module _ (es : List (Claim Exp)) (c : Closing Exp Pace) (few : c .line ≤ 254) 
 
 -- ---- the certificate
 
-line-in-table : {E R : Type 0} (k : Kind E R) (r : Refusal) → Among (line-rows k) r → InTable r
+line-in-table : {E R : Type 0} (k : LineKind E R) (r : Reason) → Among (line-rows k) r → InTable r
 unfolding line-rows InTable
 line-in-table (unfolds k θ s) r h =
     among-first (file-rows ++ unfold-rows ++ descent-rows) closing-rows r
@@ -54,14 +54,14 @@ line-in-table (unfolds k θ s) r h =
 line-in-table (descends u k θ) r h =
     among-first (file-rows ++ unfold-rows ++ descent-rows) closing-rows r (among-rest (file-rows ++ unfold-rows) descent-rows r h)
 
-closing-in-table : (r : Refusal) → Among closing-rows r → InTable r
+closing-in-table : (r : Reason) → Among closing-rows r → InTable r
 unfolding InTable
 closing-in-table r h = among-rest (file-rows ++ unfold-rows ++ descent-rows) closing-rows r h
 
 module _ (b : RuleBook) (book : BookFits b) where
   -- a check of the certificate: its refusal is in the table, and what it names is there
   record FineAt (p : Placed one) : Type 0 where
-    listed : InTable (refusal one p)
+    listed : InTable (reason one p)
     there : Named (p .check .demand)
 
   fine-from : (es : List (Claim Exp)) (a : ℕ) (ls : List (Line Exp Pair)) (c : Closing Exp Pace) → a ≡ length es
@@ -91,7 +91,7 @@ module _ (b : RuleBook) (book : BookFits b) where
         (omega (arith, certificate .closing .line))
 
     -- Every refusal that the checks can give is in 01's table.
-    pub checks-in-table : Every (λ p. InTable (refusal one p)) (checks one (b .rules) K)
+    pub checks-in-table : Every (λ p. InTable (reason one p)) (checks one (b .rules) K)
     checks-in-table = every-weaken (λ p q. q .listed) _ checks-fine
 
     -- No check asks for what is missing: a file that was read names only what is there.
@@ -99,11 +99,11 @@ module _ (b : RuleBook) (book : BookFits b) where
     nothing-missing = every-weaken (λ p q. named-is-there (p .check .demand) (q .there)) _ checks-fine
 
     -- The refusal of the first check that is not met is in 01's table.
-    pub broken-in-table : (r : Refusal) → FirstBroken one (b .rules) K r → InTable r
+    pub broken-in-table : (r : Reason) → FirstBroken one (b .rules) K r → InTable r
     unfolding Every
     broken-in-table r f =
-        let all = subst (Every (λ p. InTable (refusal one p))) (f .whole) checks-in-table in
-        let rest = every-rest (λ p. InTable (refusal one p)) (f .before) (f .broken ∷ f .after) all in
+        let all = subst (Every (λ p. InTable (reason one p))) (f .whole) checks-in-table in
+        let rest = every-rest (λ p. InTable (reason one p)) (f .before) (f .broken ∷ f .after) all in
         subst⁻¹ InTable (f .told) (rest .0)
 
 -- ---- the same of files that were read
@@ -115,5 +115,5 @@ module _ (book certificate : List ℕ) (b : RuleBook) (f : BookFile book b) (K :
   file-names-what-is-there = nothing-missing b (f .limits) K (g .limits)
 
   -- The refusals 9 to 16 are in 01's table.
-  pub broken-check-in-table : (r : Refusal) → FirstBroken one (b .rules) K r → InTable r
+  pub broken-check-in-table : (r : Reason) → FirstBroken one (b .rules) K r → InTable r
   broken-check-in-table = broken-in-table b (f .limits) K (g .limits)

@@ -10,7 +10,7 @@ use Rattle.table.specs.Places.{WORDS}
 use Rattle.bits.specs.Bits.{Bytes}
 use Rattle.bits.specs.Packed.{packed}
 use Rattle.patterns.specs.Certificate.{Certificate}
-use Rattle.patterns.specs.Refusal.{Refusal, book-place, certificate-place}
+use Rattle.patterns.specs.Reason.{Reason, book-place, certificate-place}
 use Rattle.patterns.specs.Judge.{accept, refuse, judge}
 use Rattle.patterns.specs.First.{Exp, Pair, Pace, one}
 use Rattle.patterns.proofs.Judged.{accepts-exactly, refuses-exactly}
@@ -83,18 +83,18 @@ module _ (book certificate : List ℕ) (size : ℕ) where
       ∙ accepts-exactly one (a .rule-book .rules) (a .tree) line pace .1 (a .good, a .small, a .own-line, a .own-pace)
 
 -- either file is refused exactly with its first fault
-pub book-first-fault : (book : List ℕ) → Bytes book → length book ≤ 16384 → (r : Refusal)
+pub book-first-fault : (book : List ℕ) → Bytes book → length book ≤ 16384 → (r : Reason)
     → (open-book book ≡ bad r) ↔ Faulty (Fault book a-book) book-place r
 unfolding open-book
 book-first-fault book bytes n r = bytes-first-fault book-place a-book book bytes (omega arith) r
 
-pub certificate-first-fault : (b : RuleBook) (certificate : List ℕ) → Bytes certificate → length certificate ≤ 32768 → (r : Refusal)
+pub certificate-first-fault : (b : RuleBook) (certificate : List ℕ) → Bytes certificate → length certificate ≤ 32768 → (r : Reason)
     → (open-certificate b certificate ≡ bad r) ↔ Faulty (Fault certificate (certificate-of b)) certificate-place r
 unfolding open-certificate
 certificate-first-fault b certificate bytes n r = bytes-first-fault certificate-place (certificate-of b) certificate bytes n r
 
 module _ (book certificate : List ℕ) (is-bytes : Bytes book) (are-bytes : Bytes certificate) (size : ℕ) where
-  pub first-refused : (r : Refusal) → FirstRefusal book certificate size r → judging book certificate size ≡ refuse r
+  pub first-refused : (r : Reason) → FirstRefusal book certificate size r → judging book certificate size ≡ refuse r
   first-refused r (short-table h e) = table-short book certificate size h ∙ ap refuse (sym e)
   first-refused r (long-book t h e) = table-enough book certificate size t ∙ book-long book certificate h ∙ ap refuse (sym e)
   first-refused r (long-certificate t n h e) =
@@ -112,7 +112,7 @@ module _ (book certificate : List ℕ) (is-bytes : Bytes book) (are-bytes : Byte
 
 -- how a verdict comes about: a refusal before any check, or the judge over the trees of both files
 data Way (book certificate : List ℕ) (size : ℕ) : Type 0 where
-  refused : (r : Refusal) → FirstRefusal book certificate size r → Way book certificate size
+  refused : (r : Reason) → FirstRefusal book certificate size r → Way book certificate size
   judged : WORDS ≤ size → (b : RuleBook) → BookFile book b → (K : Certificate Exp Pair Pace) → CertificateFile b certificate K
       → Way book certificate size
 
@@ -167,7 +167,7 @@ module _ (book certificate : List ℕ) (is-bytes : Bytes book) (are-bytes : Byte
           }
 
   -- It refuses exactly with the first refusal in 01's order.
-  pub refuses-exactly-when : (r : Refusal) → (judging book certificate size ≡ refuse r) ↔ FirstRefusal book certificate size r
+  pub refuses-exactly-when : (r : Reason) → (judging book certificate size ≡ refuse r) ↔ FirstRefusal book certificate size r
   refuses-exactly-when r = (λ e. forth e way, first-refused book certificate is-bytes are-bytes size r)
     where
       forth : judging book certificate size ≡ refuse r → Way book certificate size → FirstRefusal book certificate size r

@@ -5,11 +5,11 @@ use Prim.Native.Nat.{ℕ}
 use lib.ListN.{replicate}
 use Rattle.table.specs.Places.{WORDS}
 use Rattle.answers.specs.Carried.{of-a-field, of-a-part, carried}
-use Rattle.patterns.specs.Refusal.{closing-place}
+use Rattle.patterns.specs.Reason.{closing-place}
 use Rattle.patterns.specs.Judge.{accept, refuse}
 use Rattle.verdicts.specs.Program.{judging-framed, judging-input, book-length}
 use Rattle.verdicts.specs.Decimal.{decimal-within, decimal}
-use Rattle.verdicts.specs.Lines.{accept-word, refuse-word, spaced, sentence, refusal-line, line-of}
+use Rattle.verdicts.specs.Printing.{accept-word, refuse-word, spaced, sentence, refusal-line, line-of}
 
 -- ---- 1, then 2, then 3, each with W = 4 and A and B 0
 

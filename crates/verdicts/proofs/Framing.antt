@@ -11,7 +11,7 @@ use lib.Seq.{length-take-le, take-append-seam, drop-append-seam, drop-drop, getD
 use Rattle.table.specs.Places.{WORDS}
 use Rattle.bits.specs.Bits.{Bytes}
 use Rattle.patterns.specs.First.{Pace}
-use Rattle.patterns.specs.Judge.{Verdict, accept}
+use Rattle.patterns.specs.Judge.{Ruling, accept}
 use Rattle.verdicts.specs.Judging.{judging-files, refusal-one, with-table, judging}
 use Rattle.verdicts.specs.Demands.{NeverStuck}
 use Rattle.verdicts.specs.Program.{book-length, unframed, judging-parts, judging-framed, judging-input, framing, InputVerdict, short-table, too-long, cut-short, framed, AcceptableInput}
@@ -117,7 +117,7 @@ module _ (input : List ℕ) (bytes : Bytes input) (size : ℕ) where
 
   -- The program's answer is 1 for a short table, then 2 for a long input, 3 for one that is cut short, and else the judge's for the
   -- two parts.
-  pub input-exactly : (v : Verdict Pace) → (judging-input input size ≡ v) ↔ InputVerdict input size v
+  pub input-exactly : (v : Ruling Pace) → (judging-input input size ≡ v) ↔ InputVerdict input size v
   input-exactly v = (λ e. subst (InputVerdict input size) e input-verdict, back)
     where
       back : InputVerdict input size v → judging-input input size ≡ v

@@ -9,14 +9,14 @@ use lib.Dec.{ltb}
 use Rattle.table.specs.Places.{WORDS}
 use Rattle.answers.specs.Numbers.{paper-refusal, paper-answer}
 use Rattle.patterns.specs.Certificate.{Certificate}
-use Rattle.patterns.specs.Refusal.{Refusal, book-place, certificate-place}
-use Rattle.patterns.specs.Judge.{Verdict, refuse, judge}
+use Rattle.patterns.specs.Reason.{Reason, book-place, certificate-place}
+use Rattle.patterns.specs.Judge.{Ruling, refuse, judge}
 use Rattle.patterns.specs.First.{Exp, Pair, Pace, one}
 use Rattle.patterns.proofs.Judged.{refuses-exactly}
 use Rattle.grammar.specs.Books.{RuleBook}
 use Rattle.answers.specs.declared.Answer.{Answer}
 use Rattle.answers.specs.declared.Answer.the-variants.{Refused}
-use Rattle.answers.specs.declared.Refusal.{Refusal as Fault}
+use Rattle.answers.specs.declared.Refusal.{Refusal}
 use Rattle.layout.specs.Files.{where-good, Opened, good, bad, open-book, open-certificate}
 use Rattle.layout.specs.Answers.{Given}
 use Rattle.layout.specs.Promises.{Answers, BookRead, BookWritten, CertificateRead, CertificateWritten}
@@ -31,13 +31,13 @@ use Rattle.verdicts.proofs.AnsweredTable.{GivenInTable, book-in-table, 
 -- ---- the judge and the program
 
 -- what a verdict refuses with is in the table
-abbrev pub VerdictInTable : Verdict Pace → Type 0
-VerdictInTable v = (r : Refusal) → v ≡ refuse r → InTable r
+abbrev pub VerdictInTable : Ruling Pace → Type 0
+VerdictInTable v = (r : Reason) → v ≡ refuse r → InTable r
 
-refused : (r : Refusal) → InTable r → VerdictInTable (refuse r)
+refused : (r : Reason) → InTable r → VerdictInTable (refuse r)
 refused r h q e = let s : r ≡ q = cc in subst InTable s h
 
-either : (b : Bool) (v u : Verdict Pace) → VerdictInTable v → VerdictInTable u → VerdictInTable (cond b v u)
+either : (b : Bool) (v u : Ruling Pace) → VerdictInTable v → VerdictInTable u → VerdictInTable (cond b v u)
 either true v u h k = h
 either false v u h k = k
 
@@ -68,7 +68,7 @@ judging-files-in-table book certificate =
     (either (ltb 32768 (length certificate)) _ _ (refused _ (long-file-in-table certificate-place (omega arith)))
     (files book certificate))
 
-table-in-table : (size : ℕ) (v : Verdict Pace) → VerdictInTable v → VerdictInTable (with-table size v)
+table-in-table : (size : ℕ) (v : Ruling Pace) → VerdictInTable v → VerdictInTable (with-table size v)
 table-in-table size v h = either (ltb size WORDS) _ v (refused _ short-table-in-table) h
 
 pub judging-in-table : (book certificate : List ℕ) (size : ℕ) → VerdictInTable (judging book certificate size)
@@ -85,12 +85,12 @@ judging-input-in-table input size =
 -- ---- the four operations, over their own answers
 
 answers-in-table : {w : ℕ} {g : Given} {before : List ℕ} {r : Answer} {after : List ℕ} → (file : w ≤ 1) → GivenInTable g
-    → Answers w g before r after → (f : Fault) → r ≡ Refused f → InTable (paper-refusal f)
+    → Answers w g before r after → (f : Refusal) → r ≡ Refused f → InTable (paper-refusal f)
 unfolding paper-answer
 answers-in-table {w} {g} {before} file h a f e =
     told-in-table w file g (length before) h (paper-refusal f) (sym (a .answered) ∙ ap paper-answer e)
 
-module _ {before : List ℕ} {r : Answer} {after : List ℕ} (f : Fault) (e : r ≡ Refused f) where
+module _ {before : List ℕ} {r : Answer} {after : List ℕ} (f : Refusal) (e : r ≡ Refused f) where
   pub read-book-in-table : {book : List ℕ} → BookRead book before r after → InTable (paper-refusal f)
   read-book-in-table {book} h = answers-in-table (omega arith) (reading-book-in-table book) (h .answers) f e
 

@@ -7,7 +7,7 @@ use lib.ListN.{length}
 use Rattle.table.specs.Places.{WORDS}
 use Rattle.answers.specs.Carried.{refusal-at}
 use Rattle.patterns.specs.Certificate.{Certificate}
-use Rattle.patterns.specs.Refusal.{Refusal, book-place, certificate-place}
+use Rattle.patterns.specs.Reason.{Reason, book-place, certificate-place}
 use Rattle.patterns.specs.Judge.{refuse, judge}
 use Rattle.patterns.specs.First.{Exp, Pair, Pace, one}
 use Rattle.grammar.specs.Books.{RuleBook}
@@ -48,12 +48,12 @@ module _ (book certificate : List ℕ) where
 
   -- ---- the layout
 
-  pub book-refused : (r : Refusal) → open-book book ≡ bad r → judging-certificate book certificate ≡ refuse r
+  pub book-refused : (r : Reason) → open-book book ≡ bad r → judging-certificate book certificate ≡ refuse r
   unfolding judging-certificate
   book-refused r e = rw e
 
   module _ (b : RuleBook) (fs : List (ℕ × ℕ)) (opened : open-book book ≡ good b fs) where
-    pub certificate-refused : (r : Refusal) → open-certificate b certificate ≡ bad r
+    pub certificate-refused : (r : Reason) → open-certificate b certificate ≡ bad r
         → judging-certificate book certificate ≡ refuse r
     unfolding judging-certificate
     certificate-refused r e = rw (opened, e)

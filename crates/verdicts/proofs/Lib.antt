@@ -1,7 +1,7 @@
 -- The theorems of the judge and the program, and the laws of the lines that are printed.
 pub mod Decimal
 pub mod Puts
-pub mod Lines
+pub mod Printing
 pub mod Turns
 pub mod Printed
 pub mod Layers
@@ -17,4 +17,4 @@ pub mod Parted
 pub mod Telling
 pub mod Compute
 pub mod Examples
-pub mod Table
+pub mod Cases

@@ -8,11 +8,11 @@ use Rattle.answers.specs.Numbers.{paper-verdict}
 use Rattle.answers.proofs.Inverses.{verdict-tells}
 use Rattle.patterns.specs.Every.{Every}
 use Rattle.patterns.specs.First.{Pace}
-use Rattle.patterns.specs.Refusal.{Refusal}
-use Rattle.patterns.specs.Judge.{Verdict, accept, refuse}
-use Rattle.answers.specs.declared.Verdict.{Verdict as Ruling}
+use Rattle.patterns.specs.Reason.{Reason}
+use Rattle.patterns.specs.Judge.{Ruling, accept, refuse}
+use Rattle.answers.specs.declared.Verdict.{Verdict}
 use Rattle.verdicts.specs.Decimal.{decimal}
-use Rattle.verdicts.specs.Lines.{accept-word, refuse-word, spaced, sentence, refusal-line, line-of, TellsAll}
+use Rattle.verdicts.specs.Printing.{accept-word, refuse-word, spaced, sentence, refusal-line, line-of, TellsAll}
 use Rattle.verdicts.proofs.Decimal.{IsDigit, decimal-digits, decimal-tells}
 
 -- a rest that begins with a byte below the digits
@@ -60,15 +60,15 @@ spaced-tell (n ∷ ns) (m ∷ ms) e =
 pace-tells : (p q : Pace) → p .k ≡ q .k → p .α ≡ q .α → p ≡ q
 pace-tells p q e f = λ i. record { k = e i; α = f i }
 
-refusal-tells : (r t : Refusal) → r .number ≡ t .number → r .w ≡ t .w → r .a ≡ t .a → r .b ≡ t .b → r ≡ t
+refusal-tells : (r t : Reason) → r .number ≡ t .number → r .w ≡ t .w → r .a ≡ t .a → r .b ≡ t .b → r ≡ t
 refusal-tells r t e f g h = λ i. record { number = e i; w = f i; a = g i; b = h i }
 
 -- The line of a refusal that carries what its number says, and nothing else: `refuse`, its number, its W, its A and its B.
-pub own-line : (r : Refusal) → Carries r → line-of (refuse r) ≡ refusal-line r
+pub own-line : (r : Reason) → Carries r → line-of (refuse r) ≡ refusal-line r
 unfolding line-of Carries
 own-line r h = ap refusal-line h
 
-refusals-tell : (r t : Refusal) → refusal-line r ≡ refusal-line t → r ≡ t
+refusals-tell : (r t : Reason) → refusal-line r ≡ refusal-line t → r ≡ t
 unfolding refusal-line sentence refuse-word
 refusals-tell r t e =
     let ns =
@@ -77,7 +77,7 @@ refusals-tell r t e =
     refusal-tells r t (cc) (cc) (cc) (cc)
 
 -- Two verdicts with the same line are the same verdict, where the line leaves nothing out.
-pub line-tells : (v w : Verdict Pace) → TellsAll v → TellsAll w → line-of v ≡ line-of w → v ≡ w
+pub line-tells : (v w : Ruling Pace) → TellsAll v → TellsAll w → line-of v ≡ line-of w → v ≡ w
 unfolding line-of TellsAll Carries refusal-line sentence accept-word refuse-word
 line-tells (accept l p) (accept m q) h k e =
     let ns = spaced-tell (l ∷ p .k ∷ p .α ∷ []) (m ∷ q .k ∷ q .α ∷ []) (cc) in
@@ -89,5 +89,5 @@ line-tells (refuse r) (accept m q) h k e = let z : _≡_ {A = ℕ} 114 97 = cc i
 line-tells (refuse r) (refuse t) h k e = ap refuse (sym h ∙ refusals-tell _ _ e ∙ k)
 
 -- So what the program prints tells the code's verdict.
-pub printed-tells : (p q : Ruling) → TellsAll (paper-verdict p) → TellsAll (paper-verdict q) → line-of (paper-verdict p) ≡ line-of (paper-verdict q) → p ≡ q
+pub printed-tells : (p q : Verdict) → TellsAll (paper-verdict p) → TellsAll (paper-verdict q) → line-of (paper-verdict p) ≡ line-of (paper-verdict q) → p ≡ q
 printed-tells p q h k e = verdict-tells p q (line-tells (paper-verdict p) (paper-verdict q) h k e)

@@ -10,7 +10,7 @@ use Rattle.patterns.specs.Term.{Term}
 use Rattle.patterns.specs.Every.{Every}
 use Rattle.patterns.specs.Edition.{Edition}
 use Rattle.patterns.specs.Derive.{Book}
-use Rattle.patterns.specs.Certificate.{Fills, Mark, Claim, Use, Stop, fact, call, Kind, unfolds, descends, Closing}
+use Rattle.patterns.specs.Certificate.{Fills, Mark, Claim, Use, Stop, fact, call, LineKind, unfolds, descends, Closing}
 use Rattle.patterns.specs.Demand.{Demand, empty, present, level, missing}
 use Rattle.patterns.specs.Judge.{Check, check, compare, given, pending, sole, parts, stops, line-checks, loop-checks, closing-checks}
 use Rattle.patterns.proofs.Every.{every-append}
@@ -83,7 +83,7 @@ module _ {E I R S : Type 0} (𝓔 : Edition E I R S) where
     parted-stops θ (v ∷ vs) fact m = parted-missing
     parted-stops θ (v ∷ vs) (call us last) m = parted-parts θ 1 (v ∷ vs) us last m
 
-    pub parted-line : (B : Book E) (l : Claim E) (k : Kind E R) → Parteds (line-checks 𝓔 es B l k)
+    pub parted-line : (B : Book E) (l : Claim E) (k : LineKind E R) → Parteds (line-checks 𝓔 es B l k)
     unfolding line-checks
     parted-line B l (unfolds k θ s) = parted-given (getElem? B k) _ (λ r. then _ _ (nine 0 _ _) (parted-stops θ (r .calls) s (l .right)))
     parted-line B l (descends u k θ) =

@@ -8,32 +8,32 @@ use lib.ListN.{length, take, drop}
 use lib.Seq.{take-append-seam}
 use Rattle.answers.specs.Carried.{carried}
 use Rattle.answers.specs.Numbers.{w-of, paper-refusal, paper-pace, paper-verdict}
-use Rattle.patterns.specs.Refusal.{Refusal}
+use Rattle.patterns.specs.Reason.{Reason}
 use Rattle.patterns.specs.Judge.{refuse}
 use Rattle.layout.specs.Answers.{output}
-use Rattle.answers.specs.declared.Refusal.{Refusal as Fault}
+use Rattle.answers.specs.declared.Refusal.{Refusal}
 use Rattle.answers.proofs.Carrying.{carried-field, carried-part, carried-low, carried-between, carried-high}
 use Rattle.answers.specs.declared.Acceptance.{Acceptance}
-use Rattle.answers.specs.declared.Verdict.{Verdict as Ruling}
+use Rattle.answers.specs.declared.Verdict.{Verdict}
 use Rattle.answers.specs.declared.Verdict.the-variants.{Accepted, Refused}
-use Rattle.verdicts.specs.Lines.{accept-word, refuse-word, sentence, refusal-line, line-of, written-length, Prints}
+use Rattle.verdicts.specs.Printing.{accept-word, refuse-word, sentence, refusal-line, line-of, written-length, Prints}
 
 -- ---- an acceptance
 
-pub accepted-printed : (out : List ℕ) {out′ : List ℕ} {r : ℕ} {v : Ruling} (a : Acceptance) → v ≡ Accepted a
+pub accepted-printed : (out : List ℕ) {out′ : List ℕ} {r : ℕ} {v : Verdict} (a : Acceptance) → v ≡ Accepted a
     → Prints (sentence accept-word (a .line ∷ a .k ∷ a .alpha ∷ [])) out r out′ → Prints (line-of (paper-verdict v)) out r out′
 unfolding paper-verdict paper-pace line-of
-accepted-printed out {out′} {r} a e p = subst (λ (v : Ruling). Prints (line-of (paper-verdict v)) out r out′) (sym e) p
+accepted-printed out {out′} {r} a e p = subst (λ (v : Verdict). Prints (line-of (paper-verdict v)) out r out′) (sym e) p
 
 -- ---- a refusal, by its number
 
-module _ (out : List ℕ) {out′ : List ℕ} {r : ℕ} (f : Fault) {w : ℕ} (place : w ≡ w-of (f .w)) where
+module _ (out : List ℕ) {out′ : List ℕ} {r : ℕ} (f : Refusal) {w : ℕ} (place : w ≡ w-of (f .w)) where
   -- the numbers of a refusal that is carried
   carried-printed : (a b : ℕ) → carried (f .number) (w-of (f .w)) (f .a) (f .b) ≡ record { number = f .number; w = w-of (f .w); a = a; b = b }
       → Prints (sentence refuse-word (f .number ∷ w ∷ a ∷ b ∷ [])) out r out′ → Prints (line-of (refuse (paper-refusal f))) out r out′
   unfolding line-of refusal-line paper-refusal
   carried-printed a b e p =
-      subst (λ (t : Refusal). Prints (refusal-line t) out r out′) (sym e)
+      subst (λ (t : Reason). Prints (refusal-line t) out r out′) (sym e)
       (subst (λ (n : ℕ). Prints (sentence refuse-word (f .number ∷ n ∷ a ∷ b ∷ [])) out r out′) place p)
 
   pub field-printed : 3 ≤ f .number → f .number < 8 → Prints (sentence refuse-word (f .number ∷ w ∷ f .a ∷ 0 ∷ [])) out r out′
@@ -56,10 +56,10 @@ module _ (out : List ℕ) {out′ : List ℕ} {r : ℕ} (f : Fault) {w : ℕ} (p
       → Prints (line-of (refuse (paper-refusal f))) out r out′
   high-printed p = carried-printed 0 0 (carried-high _ _ _ p)
 
-pub refused-printed : (out : List ℕ) {out′ : List ℕ} {r : ℕ} {v : Ruling} (f : Fault) → v ≡ Refused f
+pub refused-printed : (out : List ℕ) {out′ : List ℕ} {r : ℕ} {v : Verdict} (f : Refusal) → v ≡ Refused f
     → Prints (line-of (refuse (paper-refusal f))) out r out′ → Prints (line-of (paper-verdict v)) out r out′
 unfolding paper-verdict
-refused-printed out {out′} {r} f e p = subst (λ (v : Ruling). Prints (line-of (paper-verdict v)) out r out′) (sym e) p
+refused-printed out {out′} {r} f e p = subst (λ (v : Verdict). Prints (line-of (paper-verdict v)) out r out′) (sym e) p
 
 -- ---- what a caller with 91 bytes gets
 

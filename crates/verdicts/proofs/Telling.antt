@@ -3,16 +3,16 @@ use Prim.Native.Nat.{ℕ}
 use mathlib.Core.Path.{_≡_, refl, _∙_, ap, subst}
 use mathlib.Core.List.{List}
 use Rattle.patterns.specs.First.{Pace}
-use Rattle.patterns.specs.Refusal.{Refusal}
-use Rattle.patterns.specs.Judge.{Verdict, accept, refuse}
+use Rattle.patterns.specs.Reason.{Reason}
+use Rattle.patterns.specs.Judge.{Ruling, accept, refuse}
 use Rattle.verdicts.specs.Judging.{judging}
 use Rattle.verdicts.specs.Program.{judging-input}
-use Rattle.verdicts.specs.Lines.{refusal-line, line-of, TellsAll}
+use Rattle.verdicts.specs.Printing.{refusal-line, line-of, TellsAll}
 use Rattle.answers.proofs.InTable.{in-table-carries}
 use Rattle.verdicts.proofs.JudgedTable.{VerdictInTable, judging-in-table, judging-input-in-table}
 use Rattle.verdicts.proofs.OneLine.{own-line, line-tells}
 
-tells-all : (v : Verdict Pace) → VerdictInTable v → TellsAll v
+tells-all : (v : Ruling Pace) → VerdictInTable v → TellsAll v
 unfolding TellsAll
 tells-all (accept l p) h = tt
 tells-all (refuse r) h = in-table-carries r (h r refl)
@@ -26,7 +26,7 @@ pub input-tells : (input : List ℕ) (size : ℕ) → TellsAll (judging-input in
 input-tells input size = tells-all _ (judging-input-in-table input size)
 
 -- a refusal's line is `refuse` and its own number, W, A and B,
-pub input-refused-line : (input : List ℕ) (size : ℕ) (r : Refusal) → judging-input input size ≡ refuse r
+pub input-refused-line : (input : List ℕ) (size : ℕ) (r : Reason) → judging-input input size ≡ refuse r
     → line-of (judging-input input size) ≡ refusal-line r
 unfolding TellsAll
 input-refused-line input size r e = ap line-of e ∙ own-line r (subst TellsAll e (input-tells input size))

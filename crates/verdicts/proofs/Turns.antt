@@ -6,26 +6,26 @@ use native.Mathlib.Omega.{arith}
 use lib.ListN.{length, take, getD, set, length-append}
 use lib.Seq.{take-suc, take-length, length-take-le}
 use Rattle.verdicts.specs.Decimal.{byte, decimal}
-use Rattle.verdicts.specs.Lines.{spaced, put}
+use Rattle.verdicts.specs.Printing.{spaced, put-at}
 use Rattle.verdicts.proofs.Decimal.{decimal-last, decimal-step, length-last, length-step, length-some, length-twenty}
 use Rattle.verdicts.proofs.Puts.{put-length, put-none, put-before, put-put, put-more}
-use Rattle.verdicts.proofs.Lines.{spaced-more, spaced-longer, spaced-within, spaced-all, put-spaced-one}
+use Rattle.verdicts.proofs.Printing.{spaced-more, spaced-longer, spaced-within, spaced-all, put-spaced-one}
 
 -- k counts the digits of n behind those of m, and one of m's
-pub record Counted (n m k : ℕ) : Type 0 where
+pub record CountedDigits (n m k : ℕ) : Type 0 where
   pub most : k ≤ 20
   pub left : k + length (decimal m) ≡ 1 + length (decimal n)
 
-pub counted-none : (n : ℕ) → Counted n n 1
+pub counted-none : (n : ℕ) → CountedDigits n n 1
 counted-none n = record { most = omega arith; left = refl }
 
-pub counted-more : {n m k : ℕ} → n < 18446744073709551616 → 9 < m → Counted n m k → Counted n (m / 10) (k + 1)
+pub counted-more : {n m k : ℕ} → n < 18446744073709551616 → 9 < m → CountedDigits n m k → CountedDigits n (m / 10) (k + 1)
 counted-more {n} {m} {k} u h c = record {
   most = omega (arith, c .left, length-step m h, length-some (m / 10), length-twenty n u);
   left = omega (arith, c .left, length-step m h);
 }
 
-pub counted-all : {n m k : ℕ} → m ≤ 9 → Counted n m k → k ≡ length (decimal n)
+pub counted-all : {n m k : ℕ} → m ≤ 9 → CountedDigits n m k → k ≡ length (decimal n)
 counted-all {n} {m} {k} h c = omega (arith, c .left, length-last m h)
 
 -- the digits of n behind those of m are put, from k on
@@ -33,7 +33,7 @@ pub record DigitsPut (out₀ : List ℕ) (at n : ℕ) (out : List ℕ) (k m : �
   pub rest : List ℕ
   pub whole : decimal n ≡ decimal m ++ rest
   pub here : k ≡ at + length (decimal m)
-  pub filled : out ≡ put out₀ k rest
+  pub filled : out ≡ put-at out₀ k rest
   pub size : length out ≡ length out₀
   pub few : m ≤ n
 
@@ -57,9 +57,9 @@ module _ {out₀ : List ℕ} {at n : ℕ} (room : at + length (decimal n) ≤ le
   digits-put-room {out} {k} {m} c = omega (arith, rest-fits c, c .size, c .here, length-some m)
 
   -- one digit more, at a place j before k
-  step : {out : List ℕ} {k m : ℕ} (c : DigitsPut out₀ at n out k m) (j d : ℕ) → k ≡ j + 1 → set out j d ≡ put out₀ j (d ∷ c .rest)
+  step : {out : List ℕ} {k m : ℕ} (c : DigitsPut out₀ at n out k m) (j d : ℕ) → k ≡ j + 1 → set out j d ≡ put-at out₀ j (d ∷ c .rest)
   step {out} {k} {m} c j d e =
-      ap (λ (t : List ℕ). set t j d) (c .filled ∙ ap (λ (i : ℕ). put out₀ i (c .rest)) e)
+      ap (λ (t : List ℕ). set t j d) (c .filled ∙ ap (λ (i : ℕ). put-at out₀ i (c .rest)) e)
       ∙ put-before out₀ j (c .rest) d (omega (arith, rest-fits c))
 
   pub digits-put-more : {out : List ℕ} {k m d : ℕ} → 9 < m → d ≡ byte (m % 10) → DigitsPut out₀ at n out k m
@@ -82,16 +82,16 @@ module _ {out₀ : List ℕ} {at n : ℕ} (room : at + length (decimal n) ≤ le
       }
 
   pub digits-put-all : {out : List ℕ} {k m d : ℕ} → m ≤ 9 → d ≡ byte m → DigitsPut out₀ at n out k m
-      → set out at d ≡ put out₀ at (decimal n)
+      → set out at d ≡ put-at out₀ at (decimal n)
   digits-put-all {out} {k} {m} {d} h e c =
       step c at d (omega (arith, c .here, length-last m h))
-      ∙ ap (λ (b : ℕ). put out₀ at (b ∷ c .rest)) e
-      ∙ ap (put out₀ at) (sym (c .whole ∙ ap (λ (t : List ℕ). t ++ c .rest) (decimal-last m h)))
+      ∙ ap (λ (b : ℕ). put-at out₀ at (b ∷ c .rest)) e
+      ∙ ap (put-at out₀ at) (sym (c .whole ∙ ap (λ (t : List ℕ). t ++ c .rest) (decimal-last m h)))
 
 -- the first i bytes of a word are put
 pub record Copied (out₀ word out : List ℕ) (i : ℕ) : Type 0 where
   pub within : i ≤ length word
-  pub copied : out ≡ put out₀ 0 (take i word)
+  pub copied : out ≡ put-at out₀ 0 (take i word)
   pub size : length out ≡ length out₀
 
 pub copied-none : (out word : List ℕ) → Copied out word out 0
@@ -105,11 +105,11 @@ module _ {out₀ word : List ℕ} (room : length word ≤ length out₀) where
       let more : take (i + 1) word ≡ take i word ++ (getD word i 0 ∷ []) =
       ap (λ (n : ℕ). take n word) {x = i + 1} {y = suc i} (omega arith) ∙ take-suc word i 0 h
       in
-      let done : set out i (getD word i 0) ≡ put out₀ 0 (take (i + 1) word) =
+      let done : set out i (getD word i 0) ≡ put-at out₀ 0 (take (i + 1) word) =
       ap (λ (t : List ℕ). set t i (getD word i 0)) (c .copied)
-      ∙ ap (λ (j : ℕ). set (put out₀ 0 (take i word)) j (getD word i 0)) {x = i} {y = 0 + length (take i word)} (omega (arith, part))
+      ∙ ap (λ (j : ℕ). set (put-at out₀ 0 (take i word)) j (getD word i 0)) {x = i} {y = 0 + length (take i word)} (omega (arith, part))
       ∙ put-more out₀ 0 (take i word) (getD word i 0) (omega (arith, part))
-      ∙ ap (put out₀ 0) (sym more)
+      ∙ ap (put-at out₀ 0) (sym more)
       in
       record {
         within = omega arith;
@@ -119,11 +119,11 @@ module _ {out₀ word : List ℕ} (room : length word ≤ length out₀) where
             ∙ put-length out₀ 0 (take (i + 1) word) (omega (arith, length-take-le (i + 1) word (omega arith)));
       }
 
-  pub copied-all : {out : List ℕ} {i : ℕ} → length word ≤ i → Copied out₀ word out i → out ≡ put out₀ 0 word
+  pub copied-all : {out : List ℕ} {i : ℕ} → length word ≤ i → Copied out₀ word out i → out ≡ put-at out₀ 0 word
   copied-all {out} {i} h c =
       c .copied
-      ∙ ap (λ (n : ℕ). put out₀ 0 (take n word)) {x = i} {y = length word} (omega (arith, c .within))
-      ∙ ap (put out₀ 0) (take-length word)
+      ∙ ap (λ (n : ℕ). put-at out₀ 0 (take n word)) {x = i} {y = length word} (omega (arith, c .within))
+      ∙ ap (put-at out₀ 0) (take-length word)
 
 -- the first i numbers are counted
 pub record Summed (ns : List ℕ) (sum i : ℕ) : Type 0 where
@@ -147,38 +147,38 @@ pub summed-all : {ns : List ℕ} {sum i : ℕ} → length ns ≤ i → Summed ns
 summed-all {ns} {sum} {i} h c = c .sum-of ∙ ap length (spaced-all ns i (c .within) h)
 
 -- the first i numbers are put, and k is the place behind them
-pub record Listed (out₀ : List ℕ) (at : ℕ) (ns out : List ℕ) (k i : ℕ) : Type 0 where
+pub record ListedNumbers (out₀ : List ℕ) (at : ℕ) (ns out : List ℕ) (k i : ℕ) : Type 0 where
   pub within : i ≤ length ns
   pub here : k ≡ at + length (spaced (take i ns))
-  pub filled : out ≡ put out₀ at (spaced (take i ns))
+  pub filled : out ≡ put-at out₀ at (spaced (take i ns))
   pub size : length out ≡ length out₀
 
-pub listed-none : (out : List ℕ) (at : ℕ) (ns : List ℕ) → Listed out at ns out at 0
+pub listed-none : (out : List ℕ) (at : ℕ) (ns : List ℕ) → ListedNumbers out at ns out at 0
 unfolding spaced
 listed-none out at ns = record { within = omega arith; here = omega arith; filled = sym (put-none out at); size = refl }
 
 module _ {out₀ : List ℕ} {at : ℕ} {ns : List ℕ} (room : at + length (spaced ns) ≤ length out₀) where
   -- one more number fits
-  pub listed-room : {out : List ℕ} {k i : ℕ} → i < length ns → Listed out₀ at ns out k i
+  pub listed-room : {out : List ℕ} {k i : ℕ} → i < length ns → ListedNumbers out₀ at ns out k i
       → k + 1 + length (decimal (getD ns i 0)) ≤ length out
   listed-room {out} {k} {i} h c =
       omega (arith, c .here, c .size, spaced-longer ns i h, spaced-within ns (i + 1))
 
-  pub listed-more : {out out′ : List ℕ} {k i r : ℕ} → i < length ns → Listed out₀ at ns out k i
-      → r ≡ k + 1 + length (decimal (getD ns i 0)) → out′ ≡ put (set out k 32) (k + 1) (decimal (getD ns i 0))
-      → Listed out₀ at ns out′ r (i + 1)
+  pub listed-more : {out out′ : List ℕ} {k i r : ℕ} → i < length ns → ListedNumbers out₀ at ns out k i
+      → r ≡ k + 1 + length (decimal (getD ns i 0)) → out′ ≡ put-at (set out k 32) (k + 1) (decimal (getD ns i 0))
+      → ListedNumbers out₀ at ns out′ r (i + 1)
   listed-more {out} {out′} {k} {i} {r} h c e f =
       let n = getD ns i 0 in
       let past = spaced (take i ns) in
       let longer = spaced-longer ns i h in
       let most = spaced-within ns (i + 1) in
-      let done : out′ ≡ put out₀ at (spaced (take (i + 1) ns)) =
+      let done : out′ ≡ put-at out₀ at (spaced (take (i + 1) ns)) =
       f
       ∙ put-spaced-one out k n (listed-room h c)
-      ∙ ap (λ (t : List ℕ). put t k (32 ∷ decimal n)) (c .filled)
-      ∙ ap (λ (j : ℕ). put (put out₀ at past) j (32 ∷ decimal n)) (c .here)
+      ∙ ap (λ (t : List ℕ). put-at t k (32 ∷ decimal n)) (c .filled)
+      ∙ ap (λ (j : ℕ). put-at (put-at out₀ at past) j (32 ∷ decimal n)) (c .here)
       ∙ put-put out₀ at past (32 ∷ decimal n) (omega (arith, longer, most))
-      ∙ ap (put out₀ at) (sym (spaced-more ns i h))
+      ∙ ap (put-at out₀ at) (sym (spaced-more ns i h))
       in
       record {
         within = omega arith;
@@ -187,8 +187,8 @@ module _ {out₀ : List ℕ} {at : ℕ} {ns : List ℕ} (room : at + length (spa
         size = ap length done ∙ put-length out₀ at (spaced (take (i + 1) ns)) (omega (arith, most));
       }
 
-  pub listed-all : {out : List ℕ} {k i : ℕ} → length ns ≤ i → Listed out₀ at ns out k i → out ≡ put out₀ at (spaced ns)
-  listed-all {out} {k} {i} h c = c .filled ∙ ap (put out₀ at) (spaced-all ns i (c .within) h)
+  pub listed-all : {out : List ℕ} {k i : ℕ} → length ns ≤ i → ListedNumbers out₀ at ns out k i → out ≡ put-at out₀ at (spaced ns)
+  listed-all {out} {k} {i} h c = c .filled ∙ ap (put-at out₀ at) (spaced-all ns i (c .within) h)
 
-  pub listed-end : {out : List ℕ} {k i : ℕ} → length ns ≤ i → Listed out₀ at ns out k i → k ≡ at + length (spaced ns)
+  pub listed-end : {out : List ℕ} {k i : ℕ} → length ns ≤ i → ListedNumbers out₀ at ns out k i → k ≡ at + length (spaced ns)
   listed-end {out} {k} {i} h c = c .here ∙ ap (λ (t : List ℕ). at + length t) (spaced-all ns i (c .within) h)

@@ -11,14 +11,14 @@ use borrow.Author.Tests.{lt-ltb, le-ltb}
 use lib.ListN.{length, replicate}
 use Rattle.table.specs.Places.{WORDS}
 use Rattle.answers.specs.Carried.{refusal-at}
-use Rattle.fields.specs.Source.{from, start}
+use Rattle.fields.specs.Source.{source, start}
 use Rattle.fields.specs.Grammar.{Grammar, Outcome, outcome, trace}
 use Rattle.fields.specs.Grammar.Outcome.{ok, no as stopped}
 use Rattle.patterns.specs.Every.{Every}
 use Rattle.patterns.specs.Derive.{Book}
 use Rattle.patterns.specs.Certificate.{Claim, Line, Closing, Certificate}
-use Rattle.patterns.specs.Refusal.{Refusal, book-place, certificate-place, line-place, closing-place, neither-place}
-use Rattle.patterns.specs.Judge.{Verdict, Placed, place, line-checks, closing-checks, checks-from, checks, refuse, FirstBroken}
+use Rattle.patterns.specs.Reason.{Reason, book-place, certificate-place, line-place, closing-place, neither-place}
+use Rattle.patterns.specs.Judge.{Ruling, Placed, place, line-checks, closing-checks, checks-from, checks, refuse, FirstBroken}
 use Rattle.patterns.specs.First.{Exp, Pair, Pace, one}
 use Rattle.patterns.proofs.Judged.{refuses-exactly}
 use Rattle.patterns.proofs.Every.{every-append, every-map, every-rest}
@@ -32,18 +32,18 @@ use Rattle.verdicts.proofs.Framing.{input-long, input-cut, input-whole}
 -- ---- no refusal but 1 has W = 4
 
 -- a file's refusal names the file
-file-named : {A : Type 0} (w : ℕ) (p : Grammar A) (s : List ℕ) {r : Refusal} → open-bytes w p s ≡ bad r → r .w ≡ w
+file-named : {A : Type 0} (w : ℕ) (p : Grammar A) (s : List ℕ) {r : Reason} → open-bytes w p s ≡ bad r → r .w ≡ w
 unfolding open-bytes
-file-named {A} w p s {r} = go (outcome (from s []) p (start false))
+file-named {A} w p s {r} = go (outcome (source s []) p (start false))
   where
     under : (e : Bool) (a : A) (n : ℕ) (fs : List (ℕ × ℕ))
         → cond e (good a fs) (bad (refusal-at 7 w n)) ≡ bad r → r .w ≡ w
     under true a n fs e = let z : _≡_ {A = ℕ} 0 1 = cc in absurd (omega arith)
-    under false a n fs e = let q : refusal-at 7 w n ≡ r = cc in sym (ap (λ (t : Refusal). t .w) q)
+    under false a n fs e = let q : refusal-at 7 w n ≡ r = cc in sym (ap (λ (t : Reason). t .w) q)
 
-    go : (o : Outcome A) → closed-bytes w s o (trace (from s []) p (start false)) ≡ bad r → r .w ≡ w
-    go (ok a c) e = under (ends-at s (c .bit)) a (c .bit) (trace (from s []) p (start false)) e
-    go (stopped m c) e = let q : refusal-at m w (c .bit) ≡ r = cc in sym (ap (λ (t : Refusal). t .w) q)
+    go : (o : Outcome A) → closed-bytes w s o (trace (source s []) p (start false)) ≡ bad r → r .w ≡ w
+    go (ok a c) e = under (ends-at s (c .bit)) a (c .bit) (trace (source s []) p (start false)) e
+    go (stopped m c) e = let q : refusal-at m w (c .bit) ≡ r = cc in sym (ap (λ (t : Reason). t .w) q)
 
 -- a check's refusal names a line or the closing
 abbrev Inside : Placed one → Type 0
@@ -64,7 +64,7 @@ inside B es a (l ∷ ls) c =
     (every-map Inside (place one line-place a) (line-checks one es B (l .claim) (l .kind)) (every-one _ (λ k. omega arith) _))
     (inside B (es ++ (l .claim ∷ [])) (suc a) ls c)
 
-broken-inside : (B : Book Exp) (K : Certificate Exp Pair Pace) (r : Refusal) → FirstBroken one B K r → r .w < neither-place
+broken-inside : (B : Book Exp) (K : Certificate Exp Pair Pace) (r : Reason) → FirstBroken one B K r → r .w < neither-place
 unfolding checks Every
 broken-inside B K r f =
     let all = subst (Every Inside) (f .whole) (inside B [] 0 (K .lines) (K .closing)) in
@@ -74,10 +74,10 @@ broken-inside B K r f =
 -- ---- refusal 1
 
 -- a refusal with another number is not 1
-another : {m w : ℕ} → m ≢ 1 → _≢_ {A = Verdict Pace} (refuse (refusal-at m w 0)) refusal-one
+another : {m w : ℕ} → m ≢ 1 → _≢_ {A = Ruling Pace} (refuse (refusal-at m w 0)) refusal-one
 another {m} {w} n q =
     let r : refusal-at m w 0 ≡ refusal-at 1 neither-place 0 = cc q in
-    n (ap (λ (t : Refusal). t .number) r)
+    n (ap (λ (t : Reason). t .number) r)
 
 -- no refusal of the two files is 1,
 files-never-one : (book certificate : List ℕ) → judging-files book certificate ≢ refusal-one
@@ -93,14 +93,14 @@ files-never-one book certificate = go (decLe (length book) 16384) (decLe (length
     judged b fs e (bad r) f q =
         let h = sym (certificate-refused book certificate b fs e r f) ∙ q in
         let w : r ≡ refusal-at 1 neither-place 0 = cc h in
-        omega (arith, file-named certificate-place _ certificate f, ap (λ (t : Refusal). t .w) w)
+        omega (arith, file-named certificate-place _ certificate f, ap (λ (t : Reason). t .w) w)
 
     read : (o : Opened RuleBook) → open-book book ≡ o → judging-certificate book certificate ≢ refusal-one
     read (good b fs) e q = judged b fs e (open-certificate b certificate) refl q
     read (bad r) e q =
         let h = sym (book-refused book certificate r e) ∙ q in
         let w : r ≡ refusal-at 1 neither-place 0 = cc h in
-        omega (arith, file-named book-place _ book e, ap (λ (t : Refusal). t .w) w)
+        omega (arith, file-named book-place _ book e, ap (λ (t : Reason). t .w) w)
 
     go : Dec (length book ≤ 16384) → Dec (length certificate ≤ 32768) → judging-files book certificate ≢ refusal-one
     go (no n) m q = another (λ e. omega arith) (sym (book-long book certificate (omega arith)) ∙ q)
@@ -116,7 +116,7 @@ framed-never-one input = go (decLe (length input) 49154) (decLe (2 + book-length
     go (yes k) (no h) q = another (λ e. omega arith) (sym (input-cut input k (omega arith)) ∙ q)
     go (yes k) (yes h) q = files-never-one _ _ (sym (input-whole input k h) ∙ q)
 
-module _ (v : Verdict Pace) (never : v ≢ refusal-one) where
+module _ (v : Ruling Pace) (never : v ≢ refusal-one) where
   one-exactly-when : (size : ℕ) → (with-table size v ≡ refusal-one) ↔ (size < WORDS)
   one-exactly-when size = (λ e. go e (decLe WORDS size), λ h. rw (lt-ltb size WORDS h))
     where

@@ -13,7 +13,7 @@ use Rattle.patterns.specs.Edition.{at}
 use Rattle.patterns.specs.Certificate.{Claim, Certificate, claim-of}
 use Rattle.patterns.specs.Checks.{Good}
 use Rattle.patterns.specs.Claims.{program}
-use Rattle.patterns.specs.Refusal.{Refusal, book-place, certificate-place, neither-place}
+use Rattle.patterns.specs.Reason.{Reason, book-place, certificate-place, neither-place}
 use Rattle.patterns.specs.Judge.{Small, FirstBroken}
 use Rattle.patterns.specs.First.{Exp, Pair, Pace, one}
 use Rattle.fields.specs.Faults.{Fault}
@@ -52,7 +52,7 @@ pub record Acceptable (book certificate : List ℕ) (size line : ℕ) (pace : Pa
   pub own-pace : pace ≡ tree .closing .pace
 
 -- 01: "Order: 1; 2 (book first); the whole book field by field; the whole certificate; then lines from 0 up; then closing."
-pub data FirstRefusal (book certificate : List ℕ) (size : ℕ) (r : Refusal) : Type 0 where
+pub data FirstRefusal (book certificate : List ℕ) (size : ℕ) (r : Reason) : Type 0 where
   short-table : size < WORDS → r ≡ refusal-at 1 neither-place 0 → FirstRefusal book certificate size r
   long-book : WORDS ≤ size → 16384 < length book → r ≡ refusal-at 2 book-place 0 → FirstRefusal book certificate size r
   long-certificate : WORDS ≤ size → length book ≤ 16384 → 32768 < length certificate → r ≡ refusal-at 2 certificate-place 0

@@ -3,5 +3,5 @@ pub mod Judging
 pub mod Demands
 pub mod Program
 pub mod Decimal
-pub mod Lines
-pub mod Table
+pub mod Printing
+pub mod Cases

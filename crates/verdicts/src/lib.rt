@@ -7,7 +7,7 @@ ghost use lib.ListN.{length};
 ghost use Rattle.patterns.specs.Judge.{refuse};
 ghost use Rattle.answers.specs.Numbers.{paper-refusal, paper-verdict};
 ghost use Rattle.verdicts.specs.Decimal.{decimal};
-ghost use Rattle.verdicts.specs.Lines.{spaced, sentence, line-of, put, Prints};
+ghost use Rattle.verdicts.specs.Printing.{spaced, sentence, line-of, put-at, Prints};
 
 // How many decimal digits a number has.
 fn digits(n: usize) -> usize
@@ -34,7 +34,7 @@ fn digit(m: usize) -> u8
 fn put_number(out: &mut [u8], at: usize, n: usize) -> usize
     requires { ⌜ at + length (decimal n) ≤ length (now out) ⌝ }
     ensures answered { λ r. ⌜ r ≡ at + length (decimal n) ⌝ }
-    ensures filled { λ _. ⌜ now (out .exit) ≡ put (now (out .entry)) at (decimal n) ⌝ }
+    ensures filled { λ _. ⌜ now (out .exit) ≡ put-at (now (out .entry)) at (decimal n) ⌝ }
 {
     let end = at + digits(n);
     let mut k = end;
@@ -66,7 +66,7 @@ fn spaced_length(numbers: &[usize]) -> usize
 fn put_spaced(out: &mut [u8], at: usize, numbers: &[usize]) -> usize
     requires { ⌜ at + length (spaced (now numbers)) ≤ length (now out) ⌝ }
     ensures answered { λ r. ⌜ r ≡ at + length (spaced (now (numbers .entry))) ⌝ }
-    ensures filled { λ _. ⌜ now (out .exit) ≡ put (now (out .entry)) at (spaced (now (numbers .entry))) ⌝ }
+    ensures filled { λ _. ⌜ now (out .exit) ≡ put-at (now (out .entry)) at (spaced (now (numbers .entry))) ⌝ }
 {
     let mut k = at;
     let mut i = 0;
@@ -81,7 +81,7 @@ fn put_spaced(out: &mut [u8], at: usize, numbers: &[usize]) -> usize
 // A word at the front.
 fn put_word(out: &mut [u8], word: &[u8])
     requires { ⌜ length (now word) ≤ length (now out) ⌝ }
-    ensures { λ _. ⌜ now (out .exit) ≡ put (now (out .entry)) 0 (now (word .entry)) ⌝ }
+    ensures { λ _. ⌜ now (out .exit) ≡ put-at (now (out .entry)) 0 (now (word .entry)) ⌝ }
 {
     let mut i = 0;
     while i < word.len() {

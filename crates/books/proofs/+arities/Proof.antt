@@ -3,7 +3,7 @@ use mathlib.Core.Path.{refl}
 use Rattle.fields.proofs.Seqs.{seq-no, seq-on, seq-last}
 use Rattle.fields.proofs.Many.{many-none, many-some}
 use Rattle.books.proofs.Counting.{arities-many}
-use Rattle.fields.specs.Kinds.{Kind as kind}
+use Rattle.fields.specs.Kinds.{FieldKind as kind}
 use Rattle.fields.proofs.Ranges.{from-to-bounded}
 use borrow.Author.Needs.{needs}
 use Prim.Native.Nat.{ℕ, _<_}
@@ -12,7 +12,7 @@ use borrow.Fn.PlainCycle.{Measures, is, falls, and}
 use Rattle.books.proofs.arities.Reads as arities
 use Rattle.books.proofs.arities.Kinds as arities-kinds
 use Rattle.books.proofs.+arities.Lts-arities as lts
-use Rattle.fields.proofs.Cursor.take.Reads as take-reads
+use Rattle.fields.proofs.Walker.take.Reads as take-reads
 use Rattle.books.proofs.+arities.{statement}
 use Rattle.books.proofs.+arities.Tie.{close}
 

@@ -2,7 +2,7 @@
 use Rattle.fields.proofs.Seqs.{seq-no, seq-at}
 use Rattle.grammar.specs.Books.{a-rule}
 use Rattle.books.proofs.Counting.{rule-counted, rule-refused}
-use Rattle.fields.specs.Kinds.{Kind as kind}
+use Rattle.fields.specs.Kinds.{FieldKind as kind}
 use Rattle.fields.proofs.Ranges.{from-to-bounded}
 use borrow.Author.Needs.{needs}
 use Rattle.books.proofs.rule.Statement.{statement}

@@ -4,7 +4,7 @@ use Rattle.fields.proofs.Always.{taken-below}
 use Rattle.grammar.specs.Books.{a-rule-list}
 use Rattle.books.proofs.Counting.{rules-all, rules-refused, list-no, list-on}
 use native.Mathlib.Omega.{arith}
-use Rattle.fields.specs.Kinds.{Kind as kind}
+use Rattle.fields.specs.Kinds.{FieldKind as kind}
 use Rattle.fields.proofs.Ranges.{any-bounded, from-to-bounded}
 use borrow.Author.Needs.{needs}
 use Rattle.books.proofs.rule_list.Statement.{statement}

@@ -2,14 +2,14 @@
 use Prim.Native.Nat.{_+_, _≤_}
 use mathlib.Core.Path.{_≡_, refl}
 use lib.ListN.{length}
-use Rattle.fields.specs.Source.{from}
+use Rattle.fields.specs.Source.{source}
 use Rattle.fields.specs.Run.{state}
 use Rattle.fields.proofs.Rounds.{Leads, leads-here, rounds-end, rounds-no, rounds-on}
 use Rattle.grammar.specs.Books.{rules-of}
 use Rattle.terms.specs.Arity.{arityAt}
 use Rattle.terms.specs.Values.{nothing}
 use Rattle.books.proofs.Counting.{rules-many, rule-few}
-use Rattle.books.proofs.Noting.{Notes, notes-here, notes-end, notes-no, notes-on}
+use Rattle.books.proofs.Noting.{NotesCalls, notes-here, notes-end, notes-no, notes-on}
 use borrow.Author.Needs.{needs}
 use Rattle.books.proofs.rules.Statement.{statement}
 use Rattle.books.proofs.rules.Tie as tie
@@ -18,9 +18,9 @@ abbrev Inv-loop : tie.InvT-loop
 Inv-loop listed book s l words₀ bytes₀ counts₀ k n at₀ place₀ more₀ words bytes counts at place more =
     (length words ≡ length words₀) × (length bytes ≡ length bytes₀) × (length counts ≡ length counts₀)
     × (place + more ≤ 256)
-    × Leads (from s l) (rules-of (arityAt book l listed) n) at₀ words₀ bytes₀ nothing
+    × Leads (source s l) (rules-of (arityAt book l listed) n) at₀ words₀ bytes₀ nothing
     (rules-of (arityAt book l listed) more) at words bytes nothing
-    × Notes (from s l) (rules-of (arityAt book l listed) n) (state at₀ words₀ bytes₀) k counts₀
+    × NotesCalls (source s l) (rules-of (arityAt book l listed) n) (state at₀ words₀ bytes₀) k counts₀
     (rules-of (arityAt book l listed) more) (state at words bytes) place counts
 
 abbrev μ-loop : tie.MeasureT-loop

@@ -4,7 +4,7 @@ use Rattle.fields.proofs.Seqs.{seq-no, seq-at}
 use Rattle.grammar.specs.Certificates.{a-certificate}
 use Rattle.fields.proofs.Always.{taken-below}
 use native.Mathlib.Omega.{arith}
-use Rattle.fields.specs.Kinds.{Kind as kind}
+use Rattle.fields.specs.Kinds.{FieldKind as kind}
 use Rattle.fields.proofs.Ranges.{any-bounded, from-to-bounded}
 use borrow.Author.Needs.{needs}
 use Rattle.certificates.proofs.certificate.Statement.{statement}

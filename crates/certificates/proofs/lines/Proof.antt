@@ -3,7 +3,7 @@ use Prim.Native.Nat.{_+_, _≤_}
 use mathlib.Core.Path.{_≡_, refl}
 use mathlib.Core.Bool.{false}
 use lib.ListN.{length}
-use Rattle.fields.specs.Source.{from}
+use Rattle.fields.specs.Source.{source}
 use Rattle.fields.proofs.Rounds.{Leads, leads-here, rounds-end, rounds-no, rounds-on}
 use Rattle.grammar.specs.Certificates.{lines-of}
 use Rattle.terms.specs.Arity.{arityAt}
@@ -16,7 +16,7 @@ use Rattle.certificates.proofs.lines.Tie as tie
 abbrev Inv-loop : tie.InvT-loop
 Inv-loop book counts s l words₀ bytes₀ n first at₀ number₀ more₀ words bytes at number more =
     (length words ≡ length words₀) × (length bytes ≡ length bytes₀) × (number + more ≤ 256)
-    × Leads (from s l) (lines-of (arityAt book l false) counts n first) at₀ words₀ bytes₀ nothing
+    × Leads (source s l) (lines-of (arityAt book l false) counts n first) at₀ words₀ bytes₀ nothing
     (lines-of (arityAt book l false) counts more number) at words bytes nothing
 
 abbrev μ-loop : tie.MeasureT-loop

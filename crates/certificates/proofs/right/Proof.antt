@@ -4,7 +4,7 @@ use Rattle.fields.proofs.Seqs.{seq-no, seq-at, seq-last, ran-done}
 use Rattle.grammar.specs.Certificates.{a-right}
 use Rattle.certificates.proofs.Cases.{right-empty, right-term}
 use native.Mathlib.Omega.{arith}
-use Rattle.fields.specs.Kinds.{Kind as kind}
+use Rattle.fields.specs.Kinds.{FieldKind as kind}
 use Rattle.fields.proofs.Ranges.{any-bounded}
 use borrow.Author.Needs.{needs}
 use Rattle.certificates.proofs.right.Statement.{statement}

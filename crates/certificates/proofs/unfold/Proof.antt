@@ -2,7 +2,7 @@
 use mathlib.Core.Path.{refl}
 use Rattle.fields.proofs.Seqs.{seq-no, seq-at, seq-last}
 use Rattle.grammar.specs.Certificates.{an-unfold}
-use Rattle.fields.specs.Kinds.{Kind as kind}
+use Rattle.fields.specs.Kinds.{FieldKind as kind}
 use Rattle.fields.proofs.Ranges.{from-to-bounded}
 use borrow.Author.Needs.{needs}
 use Rattle.certificates.proofs.unfold.Statement.{statement}

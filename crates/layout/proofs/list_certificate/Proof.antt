@@ -5,7 +5,7 @@ use Rattle.layout.proofs.Giving.{certificate-is, bad-listed}
 use Rattle.layout.proofs.Answering.{answers-shut, opening-shut, opening-good}
 use Rattle.layout.proofs.Besides.{few-counts, beside-ran}
 use Rattle.layout.specs.Files.{certificate-of, open-certificate}
-use Rattle.patterns.specs.Refusal.{certificate-place}
+use Rattle.patterns.specs.Reason.{certificate-place}
 use mathlib.Core.List.{[]}
 use mathlib.Core.Path.{_∙_}
 use Rattle.answers.proofs.Refusing.{refused-answer}

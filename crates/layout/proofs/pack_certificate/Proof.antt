@@ -4,7 +4,7 @@ use mathlib.Core.Path.{_∙_}
 use mathlib.Core.List.{[]}
 use native.Mathlib.Omega.{arith}
 use Rattle.answers.specs.Numbers.{w-of}
-use Rattle.patterns.specs.Refusal.{certificate-place}
+use Rattle.patterns.specs.Reason.{certificate-place}
 use Rattle.terms.specs.Values.{nothing}
 use Rattle.answers.specs.declared.W.the-variants.{Certificate}
 use Rattle.layout.specs.Files.{certificate-of}

@@ -3,7 +3,7 @@ use Rattle.layout.proofs.GoodFiles.{listed-short, listed-filled}
 use Rattle.answers.specs.Numbers.{w-of}
 use Rattle.layout.proofs.Answering.{answers-shut}
 use mathlib.Core.Path.{_∙_}
-use Rattle.patterns.specs.Refusal.{book-place}
+use Rattle.patterns.specs.Reason.{book-place}
 use Rattle.grammar.specs.Books.{a-book}
 use Rattle.layout.specs.Files.{open-book}
 use Rattle.layout.proofs.Answering.{answers-refusal, opening-shut, opening-good}

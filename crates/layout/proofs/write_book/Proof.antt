@@ -3,7 +3,7 @@ use Rattle.layout.proofs.GoodFiles.{packed-over, packed-short, packed-f
 use native.Mathlib.Omega.{arith}
 use mathlib.Core.Path.{refl}
 use Rattle.answers.specs.Numbers.{w-of}
-use Rattle.patterns.specs.Refusal.{book-place}
+use Rattle.patterns.specs.Reason.{book-place}
 use Rattle.grammar.specs.Books.{a-book}
 use Rattle.books.specs.Counts.{ruleCount}
 use Rattle.answers.specs.declared.W.the-variants.{Book}

@@ -1,10 +1,10 @@
 -- `terms::term`, `applied`, `raised` and `args`, which call each other, meet their contracts.
 use mathlib.Core.Path.{_≡_, refl}
 use native.Mathlib.Omega.{arith}
-use Rattle.fields.specs.Kinds.{Kind as kind}
+use Rattle.fields.specs.Kinds.{FieldKind as kind}
 use Rattle.fields.proofs.Ranges.{node-bounded}
 use lib.ListN.{length}
-use Rattle.fields.specs.Source.{from}
+use Rattle.fields.specs.Source.{source}
 use Rattle.fields.proofs.Seqs.{seq-no, seq-on, seq-at, seq-last}
 use Rattle.fields.proofs.Rounds.{Leads, leads-here, rounds-end, rounds-no, rounds-on}
 use Rattle.grammar.specs.Terms.{an-applied, a-raised, a-term, args-of}
@@ -28,7 +28,7 @@ use Rattle.terms.proofs.+applied+args+raised+term.Lts-raised as raised-
 use Rattle.terms.proofs.term.Reads as term
 use Rattle.terms.proofs.term.Kinds as term-kinds
 use Rattle.terms.proofs.+applied+args+raised+term.Lts-term as term-lts
-use Rattle.fields.proofs.Cursor.take.Reads as take-reads
+use Rattle.fields.proofs.Walker.take.Reads as take-reads
 use Rattle.terms.proofs.heads.raise.Reads as raise-reads
 use Rattle.terms.proofs.heads.symbol.Reads as symbol-reads
 use Rattle.terms.proofs.heads.variable.Reads as variable-reads
@@ -53,7 +53,7 @@ abbrev args-Inv-loop : args-lts.InvT-loop
 args-Inv-loop mode book s l words₀ bytes₀ n left at₀ more₀ rest₀ words bytes at more rest =
     (length words ≡ length words₀) × (length bytes ≡ length bytes₀) × (rest ≤ left)
     × ((deep : ℕ) → left ≤ deep
-    → Leads (from s l) (args-of (λ k. a-term deep (arityAt book l (mode .listed)) (mode .end) 0 256 k) n left) at₀ words₀ bytes₀
+    → Leads (source s l) (args-of (λ k. a-term deep (arityAt book l (mode .listed)) (mode .end) 0 256 k) n left) at₀ words₀ bytes₀
     leftOfAll (args-of (λ k. a-term deep (arityAt book l (mode .listed)) (mode .end) 0 256 k) more rest) at words bytes leftOfAll)
 
 abbrev args-μ-loop : args-lts.MeasureT-loop

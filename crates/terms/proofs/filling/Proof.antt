@@ -1,7 +1,7 @@
 -- `terms::filling` meets its contract.
 use Rattle.fields.proofs.Seqs.{seq-no, seq-at}
 use Rattle.grammar.specs.Terms.{a-filling}
-use Rattle.fields.specs.Kinds.{Kind as kind}
+use Rattle.fields.specs.Kinds.{FieldKind as kind}
 use Rattle.fields.proofs.Ranges.{from-to-bounded}
 use borrow.Author.Needs.{needs}
 use Rattle.terms.proofs.filling.Statement.{statement}

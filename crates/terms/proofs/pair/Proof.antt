@@ -1,7 +1,7 @@
 -- `terms::pair` meets its contract.
 use Rattle.fields.proofs.Seqs.{seq-no, seq-on, seq-at, ran-done}
 use Rattle.grammar.specs.Terms.{a-pair}
-use Rattle.fields.specs.Kinds.{Kind as kind}
+use Rattle.fields.specs.Kinds.{FieldKind as kind}
 use Rattle.fields.proofs.Ranges.{from-to-bounded}
 use borrow.Author.Needs.{needs}
 use Rattle.terms.proofs.pair.Statement.{statement}

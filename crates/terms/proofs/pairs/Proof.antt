@@ -3,7 +3,7 @@ use Prim.Native.Nat.{_+_}
 use mathlib.Core.Path.{_≡_, refl, ap}
 use mathlib.Core.Bool.{false}
 use lib.ListN.{length}
-use Rattle.fields.specs.Source.{from}
+use Rattle.fields.specs.Source.{source}
 use Rattle.fields.proofs.Rounds.{Leads, leads-here, rounds-end, rounds-no, rounds-on}
 use Rattle.grammar.specs.Terms.{pairs-of}
 use Rattle.terms.specs.Arity.{arityAt}
@@ -16,7 +16,7 @@ use Rattle.terms.proofs.pairs.Tie as tie
 abbrev Inv-loop : tie.InvT-loop
 Inv-loop book s l words₀ bytes₀ n least at₀ next₀ more₀ words bytes at next more =
     (length words ≡ length words₀) × (length bytes ≡ length bytes₀)
-    × Leads (from s l) (pairs-of (arityAt book l false) n least) at₀ words₀ bytes₀ nothing
+    × Leads (source s l) (pairs-of (arityAt book l false) n least) at₀ words₀ bytes₀ nothing
     (pairs-of (arityAt book l false) more next) at words bytes nothing
 
 abbrev μ-loop : tie.MeasureT-loop

@@ -3,7 +3,7 @@ use mathlib.Core.Path.{refl}
 use Rattle.fields.proofs.Seqs.{seq-no, seq-at, seq-last}
 use Rattle.grammar.specs.Certificates.{an-index}
 use native.Mathlib.Omega.{arith}
-use Rattle.fields.specs.Kinds.{Kind as kind}
+use Rattle.fields.specs.Kinds.{FieldKind as kind}
 use Rattle.fields.proofs.Ranges.{any-bounded}
 use borrow.Author.Needs.{needs}
 use Rattle.uses.proofs.index.Statement.{statement}

@@ -1,7 +1,7 @@
 -- `uses::stop_at` meets its contract.
 use Rattle.fields.proofs.Seqs.{seq-no, seq-at}
 use Rattle.grammar.specs.Certificates.{a-stop-at}
-use Rattle.fields.specs.Kinds.{Kind as kind}
+use Rattle.fields.specs.Kinds.{FieldKind as kind}
 use Rattle.fields.proofs.Ranges.{from-to-bounded}
 use borrow.Author.Needs.{needs}
 use Rattle.uses.proofs.stop_at.Statement.{statement}

@@ -1,12 +1,12 @@
 -- `verdicts::digits` meets its contract: every tenth counts one digit.
 use native.Mathlib.Omega.{arith}
 use borrow.Author.Needs.{needs}
-use Rattle.verdicts.proofs.Turns.{Counted, counted-none, counted-more, counted-all}
+use Rattle.verdicts.proofs.Turns.{CountedDigits, counted-none, counted-more, counted-all}
 use Rattle.verdicts.proofs.digits.Statement.{statement}
 use Rattle.verdicts.proofs.digits.Tie as tie
 
 abbrev Inv-loop : tie.InvT-loop
-Inv-loop n m₀ k₀ m k = Counted n m k
+Inv-loop n m₀ k₀ m k = CountedDigits n m k
 
 abbrev μ-loop : tie.MeasureT-loop
 μ-loop n m₀ k₀ m k = m

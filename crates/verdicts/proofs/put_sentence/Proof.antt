@@ -1,5 +1,5 @@
 -- `verdicts::put_sentence` meets its contract: the length first, then the word, the spaced numbers and the newline.
-use Rattle.verdicts.proofs.Lines.{sentence-none, sentence-all, sentence-size}
+use Rattle.verdicts.proofs.Printing.{sentence-none, sentence-all, sentence-size}
 use native.Mathlib.Omega.{arith}
 use borrow.Author.Needs.{needs}
 use Rattle.verdicts.proofs.put_sentence.Statement.{statement}

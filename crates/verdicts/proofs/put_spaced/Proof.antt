@@ -2,12 +2,12 @@
 use Prim.Native.Nat.{_-_}
 use native.Mathlib.Omega.{arith}
 use lib.ListN.{length, length-set}
-use Rattle.verdicts.proofs.Turns.{Listed, listed-none, listed-room, listed-more, listed-all, listed-end}
+use Rattle.verdicts.proofs.Turns.{ListedNumbers, listed-none, listed-room, listed-more, listed-all, listed-end}
 use Rattle.verdicts.proofs.put_spaced.Statement.{statement}
 use Rattle.verdicts.proofs.put_spaced.Tie as tie
 
 abbrev Inv-loop : tie.InvT-loop
-Inv-loop out₀ at numbers k₀ i₀ out k i = Listed out₀ at numbers out k i
+Inv-loop out₀ at numbers k₀ i₀ out k i = ListedNumbers out₀ at numbers out k i
 
 abbrev μ-loop : tie.MeasureT-loop
 μ-loop out₀ at numbers k₀ i₀ out k i = length numbers - i

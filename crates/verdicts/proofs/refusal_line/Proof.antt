@@ -1,7 +1,7 @@
 -- `verdicts::refusal_line` meets its contract: a match on the number.
 use mathlib.Core.Logic.{⊎-elim}
 use native.Mathlib.Omega.{arith}
-use Rattle.verdicts.specs.Lines.{refuse-word}
+use Rattle.verdicts.specs.Printing.{refuse-word}
 use Rattle.verdicts.proofs.Printed.{field-printed, part-printed, low-printed, between-printed, high-printed}
 use borrow.Author.Needs.{needs}
 use Rattle.verdicts.proofs.refusal_line.Statement.{statement}

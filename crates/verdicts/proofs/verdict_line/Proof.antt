@@ -1,5 +1,5 @@
 -- `verdicts::verdict_line` meets its contract: a word and the numbers of each kind of verdict.
-use Rattle.verdicts.specs.Lines.{accept-word}
+use Rattle.verdicts.specs.Printing.{accept-word}
 use Rattle.verdicts.proofs.Printed.{accepted-printed, refused-printed}
 use borrow.Author.Needs.{needs}
 use Rattle.verdicts.proofs.verdict_line.Statement.{statement}

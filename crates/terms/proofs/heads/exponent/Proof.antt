@@ -3,7 +3,7 @@ use mathlib.Core.Path.{refl}
 use Rattle.fields.proofs.Seqs.{seq-no, seq-at, seq-last}
 use Rattle.grammar.specs.Terms.{an-exponent}
 use native.Mathlib.Omega.{arith}
-use Rattle.fields.specs.Kinds.{Kind as kind}
+use Rattle.fields.specs.Kinds.{FieldKind as kind}
 use Rattle.fields.proofs.Ranges.{from-to-bounded, beside-bounded}
 use borrow.Author.Needs.{needs}
 use Rattle.terms.proofs.heads.exponent.Statement.{statement}

@@ -7,8 +7,8 @@ use lib.ListN.{length, take, drop}
 use lib.Dec.{ltb}
 use Rattle.answers.specs.Carried.{carried, Carries}
 use Rattle.patterns.specs.First.{Pace}
-use Rattle.patterns.specs.Refusal.{Refusal}
-use Rattle.patterns.specs.Judge.{Verdict, accept, refuse}
+use Rattle.patterns.specs.Reason.{Reason}
+use Rattle.patterns.specs.Judge.{Ruling, accept, refuse}
 use Rattle.layout.specs.Answers.{gives, output}
 use Rattle.verdicts.specs.Decimal.{decimal}
 
@@ -29,16 +29,16 @@ spaced (n ∷ ns) = (32 ∷ decimal n) ++ spaced ns
 unfoldable pub sentence : List ℕ → List ℕ → List ℕ
 sentence word ns = word ++ (spaced ns ++ (10 ∷ []))
 
-unfoldable pub refusal-line : Refusal → List ℕ
+unfoldable pub refusal-line : Reason → List ℕ
 refusal-line r = sentence refuse-word (r .number ∷ r .w ∷ r .a ∷ r .b ∷ [])
 
 -- 01: "It prints one line: `accept` line k α, or `refuse` number W A B"; A and B are what the number carries
-unfoldable pub line-of : Verdict Pace → List ℕ
+unfoldable pub line-of : Ruling Pace → List ℕ
 line-of (accept l p) = sentence accept-word (l ∷ p .k ∷ p .α ∷ [])
 line-of (refuse r) = refusal-line (carried (r .number) (r .w) (r .a) (r .b))
 
 -- a verdict of which the line leaves nothing out
-unfoldable pub TellsAll : Verdict Pace → Type 0
+unfoldable pub TellsAll : Ruling Pace → Type 0
 TellsAll (accept l p) = Unit {0}
 TellsAll (refuse r) = Carries r
 
@@ -54,5 +54,5 @@ pub record Prints (line before : List ℕ) (r : ℕ) (after : List ℕ) : Type 0
   pub short : length line ≤ 91
 
 -- bytes put at a place, the rest kept
-unfoldable pub put : List ℕ → ℕ → List ℕ → List ℕ
-put out at l = take at out ++ (l ++ drop (at + length l) out)
+unfoldable pub put-at : List ℕ → ℕ → List ℕ → List ℕ
+put-at out at l = take at out ++ (l ++ drop (at + length l) out)

@@ -8,7 +8,7 @@ use lib.Seq.{take-suc, take-length}
 use borrow.Author.Tests.{lt-ltb, le-ltb}
 use Rattle.layout.specs.Answers.{gives, output}
 use Rattle.verdicts.specs.Decimal.{decimal}
-use Rattle.verdicts.specs.Lines.{spaced, sentence, put, written-length, Prints}
+use Rattle.verdicts.specs.Printing.{spaced, sentence, put-at, written-length, Prints}
 use Rattle.verdicts.proofs.Puts.{put-length, put-front, put-one, put-put, put-more}
 
 abbrev spaced-one : ℕ → List ℕ
@@ -49,9 +49,9 @@ spaced-all l i h k =
 
 -- a space and then a number
 pub put-spaced-one : (out : List ℕ) (k n : ℕ) → k + 1 + length (decimal n) ≤ length out
-    → put (set out k 32) (k + 1) (decimal n) ≡ put out k (32 ∷ decimal n)
+    → put-at (set out k 32) (k + 1) (decimal n) ≡ put-at out k (32 ∷ decimal n)
 put-spaced-one out k n h =
-    ap (λ (t : List ℕ). put t (k + 1) (decimal n)) (put-one out k 32 (omega arith))
+    ap (λ (t : List ℕ). put-at t (k + 1) (decimal n)) (put-one out k 32 (omega arith))
     ∙ put-put out k (32 ∷ []) (decimal n) (omega arith)
 
 -- ---- a whole line
@@ -79,24 +79,24 @@ module _ (word ns out : List ℕ) where
 
   -- a word, the spaced numbers behind it, and the newline
   line-put : length (sentence word ns) ≤ length out
-      → set (put (put out 0 word) (length word) (spaced ns)) (length word + length (spaced ns)) 10 ≡ put out 0 (sentence word ns)
+      → set (put-at (put-at out 0 word) (length word) (spaced ns)) (length word + length (spaced ns)) 10 ≡ put-at out 0 (sentence word ns)
   unfolding sentence
   line-put h =
       let size = sentence-length word ns in
       let both = length-append word (spaced ns) in
       let end : length word + length (spaced ns) ≡ 0 + length (word ++ spaced ns) = omega (arith, both) in
-      ap (λ (i : ℕ). set (put (put out 0 word) i (spaced ns)) (length word + length (spaced ns)) 10)
+      ap (λ (i : ℕ). set (put-at (put-at out 0 word) i (spaced ns)) (length word + length (spaced ns)) 10)
       {x = length word}
       {y = 0 + length word}
       (omega arith)
       ∙ ap (λ (t : List ℕ). set t (length word + length (spaced ns)) 10)
       (put-put out 0 word (spaced ns) (omega (arith, size)))
-      ∙ ap (λ (i : ℕ). set (put out 0 (word ++ spaced ns)) i 10) end
+      ∙ ap (λ (i : ℕ). set (put-at out 0 (word ++ spaced ns)) i 10) end
       ∙ put-more out 0 (word ++ spaced ns) 10 (omega (arith, size, both))
-      ∙ ap (put out 0) (append-assoc word (spaced ns) (10 ∷ []))
+      ∙ ap (put-at out 0) (append-assoc word (spaced ns) (10 ∷ []))
 
   pub all-put : length (sentence word ns) ≤ length out
-      → set (put (put out 0 word) (length word) (spaced ns)) (length word + length (spaced ns)) 10
+      → set (put-at (put-at out 0 word) (length word) (spaced ns)) (length word + length (spaced ns)) 10
       ≡ output (gives (sentence word ns)) out
   unfolding output
   all-put h = line-put h ∙ rw (le-ltb _ _ h) (put-front out (sentence word ns))
@@ -110,21 +110,21 @@ module _ (word ns out : List ℕ) where
 
   pub sentence-all : {n k : ℕ} {out₁ out₂ : List ℕ} → (n ≡ length (spaced ns)) × (n ≤ 84) → length word ≤ 6
       → length word + n + 1 ≤ length out
-      → out₁ ≡ put out 0 word → k ≡ length word + length (spaced ns) → out₂ ≡ put out₁ (length word) (spaced ns)
+      → out₁ ≡ put-at out 0 word → k ≡ length word + length (spaced ns) → out₂ ≡ put-at out₁ (length word) (spaced ns)
       → Prints (sentence word ns) out (length word + n + 1) (set out₂ k 10)
   sentence-all {n} {k} {out₁} {out₂} e few h first end second =
       let size = sentence-length word ns in
       let fits : length (sentence word ns) ≤ length out = omega arith in
       record {
         answered = ap (λ (i : ℕ). length word + i + 1) (e .0) ∙ all-answered fits;
-        filled = ap (λ (t : List ℕ). set t k 10) (second ∙ ap (λ (t : List ℕ). put t (length word) (spaced ns)) first)
-            ∙ ap (λ (i : ℕ). set (put (put out 0 word) (length word) (spaced ns)) i 10) end
+        filled = ap (λ (t : List ℕ). set t k 10) (second ∙ ap (λ (t : List ℕ). put-at t (length word) (spaced ns)) first)
+            ∙ ap (λ (i : ℕ). set (put-at (put-at out 0 word) (length word) (spaced ns)) i 10) end
             ∙ all-put fits;
         short = omega arith;
       }
 
   pub sentence-size : {n : ℕ} (k d : ℕ) {out₁ out₂ : List ℕ} → n ≡ length (spaced ns) → length word + n + 1 ≤ length out
-      → out₁ ≡ put out 0 word → out₂ ≡ put out₁ (length word) (spaced ns) → length (set out₂ k d) ≡ length out
+      → out₁ ≡ put-at out 0 word → out₂ ≡ put-at out₁ (length word) (spaced ns) → length (set out₂ k d) ≡ length out
   sentence-size {n} k d {out₁} {out₂} e h first second =
       let front : length out₁ ≡ length out = ap length first ∙ put-length out 0 word (omega arith) in
       length-set out₂ k d

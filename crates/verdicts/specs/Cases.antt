@@ -8,13 +8,13 @@ use Rattle.patterns.specs.Term.{fill}
 use Rattle.patterns.specs.Edition.{reindex, form}
 use Rattle.patterns.specs.Certificate.{by, Line}
 use Rattle.patterns.specs.Checks.{Lines}
-use Rattle.patterns.specs.Judge.{Verdict, accept, refuse}
+use Rattle.patterns.specs.Judge.{Ruling, accept, refuse}
 use Rattle.patterns.specs.First.{Exp, Pattern, Pair, Pace, one}
-use Rattle.patterns.specs.Examples.{x, y, s, r, f, W, gt-base, gt-line, add-base, add-line, while-line, certificate}
+use Rattle.patterns.specs.Examples.{x, y, s, r, f, W-book, gt-base, gt-line, add-base, add-line, while-line, certificate}
 use Rattle.grammar.specs.Listing.{book-fields, certificate-fields}
 use Rattle.verdicts.specs.Judging.{judging}
 use Rattle.verdicts.specs.Program.{judging-input}
-use Rattle.verdicts.specs.Lines.{line-of}
+use Rattle.verdicts.specs.Printing.{line-of}
 
 -- what a case says
 pub data Case : Type 0 where
@@ -25,21 +25,21 @@ pub data Case : Type 0 where
   -- lines over W are good, each over the earlier ones
   good : List (Line Exp Pair) → Case
   -- a book and a certificate, in bytes, get a verdict
-  gets : List ℕ → List ℕ → Verdict Pace → Case
+  gets : List ℕ → List ℕ → Ruling Pace → Case
   -- an input gets a verdict, and a line is printed for it
-  prints : List ℕ → Verdict Pace → List ℕ → Case
+  prints : List ℕ → Ruling Pace → List ℕ → Case
 
 -- with a work table of 8,192 numbers
 unfoldable pub True : Case → Type 0
 True (has-form t u) = form one t ≡ u
 True (is t u) = t ≡ u
-True (good ls) = Lines one W [] ls
+True (good ls) = Lines one W-book [] ls
 True (gets book certificate v) = judging book certificate WORDS ≡ v
 True (prints input v line) = (judging-input input WORDS ≡ v) × (line-of v ≡ line)
 
 -- the book W in bytes: the arities of s, 0, gt, add and while, and the rules
 abbrev pub W-file : List ℕ
-W-file = packed (book-fields (record { arities = 1 ∷ 0 ∷ 2 ∷ 3 ∷ 2 ∷ []; rules = W }))
+W-file = packed (book-fields (record { arities = 1 ∷ 0 ∷ 2 ∷ 3 ∷ 2 ∷ []; rules = W-book }))
 
 -- the certificate of cases 9 and 10 in bytes, with the start α
 abbrev pub W-certificate : ℕ → List ℕ

@@ -1,11 +1,11 @@
--- `fields::Cursor::look` meets its contract.
+-- `fields::Walker::look` meets its contract.
 use native.Mathlib.Omega.{arith}
 use mathlib.Core.Path.{sym, _∙_, ap}
 use Rattle.fields.specs.Source.{ofBits}
 use Rattle.fields.proofs.Sources.{field-wide, field-many, field-far, field-listed, field-packed}
 use borrow.Author.Needs.{needs}
-use Rattle.fields.proofs.Cursor.look.Statement.{statement}
-use Rattle.fields.proofs.Cursor.look.Tie as tie
+use Rattle.fields.proofs.Walker.look.Statement.{statement}
+use Rattle.fields.proofs.Walker.look.Tie as tie
 
 returns : tie.Need-returns
 returns c = sym (field-wide _ _ _ _ (omega arith))

@@ -1,10 +1,10 @@
--- `fields::Cursor::take` meets its contract.
+-- `fields::Walker::take` meets its contract.
 use mathlib.Core.Path.{sym, _∙_}
 use Rattle.fields.proofs.Sources.{got-near}
 use Rattle.fields.proofs.Runs.{took-bad, took-low, took-high, took-in}
 use borrow.Author.Needs.{needs}
-use Rattle.fields.proofs.Cursor.take.Statement.{statement}
-use Rattle.fields.proofs.Cursor.take.Tie as tie
+use Rattle.fields.proofs.Walker.take.Statement.{statement}
+use Rattle.fields.proofs.Walker.take.Tie as tie
 
 returns : tie.Need-returns
 returns c = took-low _ _ (c .before .before .before .before .look .ensures) _ (c .before .before .v .given .1) (c .if1 .taken)
