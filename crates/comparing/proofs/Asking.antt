@@ -37,31 +37,31 @@ module _ {book cert : List ℕ} {l n p right : ℕ} {q : Behind} {a b : Subject}
 
 -- ---- by what is asked
 
-module _ {book cert : List ℕ} {kind : Whole} {part right : ℕ} {q : Behind} {a b : Subject} {w after : List ℕ} {r : Found} {x : Asked} (e : x ≡ asked-at kind part) where
+module _ {book cert : List ℕ} {whole : Whole} {part right : ℕ} {q : Behind} {a b : Subject} {w after : List ℕ} {r : Found} {x : Asked} (e : x ≡ asked-at whole part) where
   -- the checks of what is asked are those of the part
   made : Below FIRST w after
       → ((ars : List ℕ) → Known-arities book ars → (t : Mark Exp) → RightAt cert ars right t → (m : Mark Exp) (i : ℕ) → Means book cert w a m i
       → (k : Mark Exp) (f : ℕ) → Means book cert w b k f → Finds (checks-of x part q t m k) (end-of x i) r)
-      → Checks book cert kind part right q a b w after r
+      → Checks book cert whole part right q a b w after r
   made below h = record {
     told = λ ars s t u m i y k f z. subst (λ o. Finds (checks-of o part q t m k) (end-of o i) r) e (h ars s t u m i y k f z);
     below = below;
   }
 
-module _ {book cert : List ℕ} {kind : Whole} {part right : ℕ} {q : Behind} {a b : Subject} {w after : List ℕ} {r : Found} {x : Asked} {n : ℕ} (e : x ≡ asked-at kind part) where
-  pub made-same : x ≡ Same n → Equals book cert n part a b w after r → Checks book cert kind part right q a b w after r
+module _ {book cert : List ℕ} {whole : Whole} {part right : ℕ} {q : Behind} {a b : Subject} {w after : List ℕ} {r : Found} {x : Asked} {n : ℕ} (e : x ≡ asked-at whole part) where
+  pub made-same : x ≡ Same n → Equals book cert n part a b w after r → Checks book cert whole part right q a b w after r
   unfolding checks-of end-of
   made-same s h = made (sym s ∙ e) (h .below) (λ ars k t u m i y d f z. h .told m i y d f z)
 
-  pub made-led : {l : ℕ} → x ≡ Led l n → LedEquals book cert l n part right q a b w after r → Checks book cert kind part right q a b w after r
+  pub made-led : {l : ℕ} → x ≡ Led l n → LedEquals book cert l n part right q a b w after r → Checks book cert whole part right q a b w after r
   unfolding checks-of end-of
   made-led s h = made (sym s ∙ e) (h .below) (λ ars k t u m i y d f z. h .told ars t u m i y d f z)
 
-module _ {book cert : List ℕ} {kind : Whole} {part right : ℕ} {q : Behind} {a b : Subject} {w : List ℕ} {r : Found} {x : Asked} {n : ℕ} (e : x ≡ asked-at kind part) where
-  pub made-level : x ≡ Level n → LooksLevel book cert right n part r → Checks book cert kind part right q a b w w r
+module _ {book cert : List ℕ} {whole : Whole} {part right : ℕ} {q : Behind} {a b : Subject} {w : List ℕ} {r : Found} {x : Asked} {n : ℕ} (e : x ≡ asked-at whole part) where
+  pub made-level : x ≡ Level n → LooksLevel book cert right n part r → Checks book cert whole part right q a b w w r
   unfolding checks-of end-of
   made-level s h = made (sym s ∙ e) (below-self FIRST w) (λ ars k t u m i y d f z. h .told ars k t u)
 
-  pub made-present : x ≡ Present n → Looks cert right Pending n part r → Checks book cert kind part right q a b w w r
+  pub made-present : x ≡ Present n → Looks cert right Pending n part r → Checks book cert whole part right q a b w w r
   unfolding checks-of end-of lead
   made-present s h = made (sym s ∙ e) (below-self FIRST w) (λ ars k t u m i y d f z. h .told ars t u)

@@ -54,7 +54,7 @@ pub record LedEquals (book cert : List ℕ) (l n p right : ℕ) (q : Behind) (a 
   pub below : Below FIRST w after
 
 -- what is asked at a part was looked at
-pub record Checks (book cert : List ℕ) (kind : Whole) (part right : ℕ) (q : Behind) (a b : Subject) (w after : List ℕ) (r : Found) : Type 0 where
+pub record Checks (book cert : List ℕ) (whole : Whole) (part right : ℕ) (q : Behind) (a b : Subject) (w after : List ℕ) (r : Found) : Type 0 where
   pub told : (ars : List ℕ) → Known-arities book ars → (t : Mark Exp) → RightAt cert ars right t → (m : Mark Exp) (e : ℕ) → Means book cert w a m e
-      → (k : Mark Exp) (f : ℕ) → Means book cert w b k f → Finds (checks-of (asked-at kind part) part q t m k) (end-of (asked-at kind part) e) r
+      → (k : Mark Exp) (f : ℕ) → Means book cert w b k f → Finds (checks-of (asked-at whole part) part q t m k) (end-of (asked-at whole part) e) r
   pub below : Below FIRST w after

@@ -42,7 +42,7 @@ pub enum Found {
     Good(usize),
 }
 
-// Where a check stands.
+// The whole whose part a check is.
 pub enum Whole {
     Unfold,
     Descent,
@@ -104,11 +104,11 @@ fn led_equal(
     }
 }
 
-// What is asked at each part of each kind of line.
-fn asked_at(kind: Whole, part: usize) -> Asked
-    ensures { λ r. ⌜ r ≡ asked-at kind part ⌝ }
+// What is asked at each part of each whole.
+fn asked_at(whole: Whole, part: usize) -> Asked
+    ensures { λ r. ⌜ r ≡ asked-at whole part ⌝ }
 {
-    match kind {
+    match whole {
         Whole::Unfold => match part {
             0 => Asked::Same(9),
             15 => Asked::Same(12),
@@ -136,7 +136,7 @@ pub fn check(
     book: &[u8],
     certificate: &[u8],
     w: &mut [u64],
-    kind: Whole,
+    whole: Whole,
     part: usize,
     right: usize,
     behind: Behind,
@@ -144,9 +144,9 @@ pub fn check(
     b: Subject,
 ) -> Found
     requires { ⌜ WORDS ≤ length (now w) ⌝ }
-    ensures { λ r. ⌜ Checks (now (book .entry)) (now (certificate .entry)) kind part right behind a b (now (w .entry)) (now (w .exit)) r ⌝ }
+    ensures { λ r. ⌜ Checks (now (book .entry)) (now (certificate .entry)) whole part right behind a b (now (w .entry)) (now (w .exit)) r ⌝ }
 {
-    match asked_at(kind, part) {
+    match asked_at(whole, part) {
         Asked::Same(n) => sides::equal(book, certificate, w, n, part, a, b),
         Asked::Led {
             before: l,

@@ -1,6 +1,6 @@
 -- A certificate beside its book: the arities that are looked up in the book's bytes, and the calls that were noted.
 use Prim.Native.Nat.{ℕ, _<_}
-use mathlib.Core.Path.{_≡_, refl, sym, _∙_, ap, subst, fun-ext}
+use mathlib.Core.Path.{_≡_, sym, _∙_, ap, subst, fun-ext}
 use mathlib.Core.List.{List, []}
 use mathlib.Core.Bool.{false}
 use native.Mathlib.Omega.{arith}
@@ -8,7 +8,7 @@ use lib.ListN.{length, take, length-map}
 use Rattle.patterns.specs.Reason.{book-place}
 use Rattle.fields.specs.declared.Walker.{Walker}
 use Rattle.fields.specs.declared.Walk.{Walk}
-use Rattle.fields.specs.Source.{Source, source, fieldAt, start}
+use Rattle.fields.specs.Source.{Source, source, start}
 use Rattle.fields.specs.Grammar.{outcome}
 use Rattle.fields.specs.Grammar.Outcome.{ok}
 use Rattle.fields.specs.Run.{Ran}
@@ -17,7 +17,8 @@ use Rattle.fields.proofs.Sinks.{run-ok}
 use Rattle.grammar.specs.Books.{RuleBook, arity-in, a-signature, a-rule-list, a-book}
 use Rattle.grammar.specs.Certificates.{a-certificate}
 use Rattle.grammar.specs.Limits.{call-counts}
-use Rattle.terms.specs.Arity.{numberAt, arityAt}
+use Rattle.terms.proofs.Arities.{in-bytes-only}
+use Rattle.terms.specs.Arity.{arityAt}
 use Rattle.terms.specs.Values.{nothing}
 use Rattle.books.proofs.Lookup.{arity-known}
 use Rattle.layout.specs.declared.Opening.{Opening}
@@ -57,11 +58,6 @@ book-arities s b d e =
     same : (ars : List ℕ) {rs : _} {c : Walker} → ok (record { arities = ars; rules = rs }) c ≡ ok b d
         → record { arities = ars; rules = rs } ≡ b
     same ars q = cc
-
--- a look-up in bytes does not depend on the list
-pub in-bytes-only : (s l : List ℕ) (f : ℕ) → arityAt s l false f ≡ arityAt s [] false f
-unfolding arityAt numberAt fieldAt
-in-bytes-only s l f = refl
 
 module _ (book l counts : List ℕ) (h : Beside book counts) where
   pub arities-known : (λ f. arityAt book l false f) ≡ arity-in (h .tree .arities)

@@ -2,7 +2,7 @@
 use Prim.Native.Nat.{ℕ, _+_, _-_, _*_, _≤_, _^_}
 use mathlib.Core.Path.{_≡_, refl, sym, _∙_, ap, subst}
 use mathlib.Core.List.{List, [], append-nil}
-use mathlib.Core.Bool.{Bool, true, false, _&&_, cond}
+use mathlib.Core.Bool.{Bool, true, false, cond}
 use native.Mathlib.Omega.{arith}
 use borrow.Author.Tests.{eq-eqb, eqb-true, le-ltb, ltb-false}
 use lib.ListN.{length, length-map}
@@ -16,6 +16,7 @@ use Rattle.patterns.specs.First.{Exp, Pair, Pace}
 use Rattle.patterns.specs.Certificate.{Certificate}
 use Rattle.fields.specs.Source.{source, start}
 use Rattle.fields.specs.Grammar.{Grammar}
+use Rattle.fields.proofs.Sources.{both-true}
 use Rattle.fields.proofs.Sinks.{values}
 use Rattle.fields.proofs.Reading.{Reading}
 use Rattle.fields.proofs.Trips.{read-packed-field, read-trip, written-whole, write-trip}
@@ -25,10 +26,6 @@ use Rattle.layout.specs.Answers.{Given, gives, refuses, listed, packed-g
 use Rattle.layout.proofs.Opens.{in-bytes, in-list}
 
 -- ---- one file, for every grammar
-
-both-true : (a b : Bool) → a && b ≡ true → (a ≡ true) × (b ≡ true)
-both-true true b p = (refl, p)
-both-true false b p = (p, cc)
 
 module _ {A : Type 0} (w v : ℕ) (p : Grammar A) {a : A} {fs : List (ℕ × ℕ)} where
   -- a good file in bytes is its fields packed, and they listed are a good list

@@ -5,11 +5,11 @@ use borrow.Author.Needs.{needs}
 use Rattle.answers.proofs.whole.Statement.{statement}
 use Rattle.answers.proofs.whole.Tie as tie
 
-carried-requires : tie.Need-carried-requires
-carried-requires c κs = search needs
-
 returns : tie.Need-returns
 returns c = c .carried .ensures ∙ carried-nothing _ _
 
 pub whole-spec : {M : Type 1} → statement M
-whole-spec = tie.close (tie.spec carried-requires returns)
+whole-spec =
+    tie.close (tie.spec
+    (λ c κs. search needs)
+    returns)

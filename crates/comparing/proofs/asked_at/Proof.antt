@@ -8,12 +8,6 @@ use Rattle.comparing.proofs.asked_at.Tie as tie
 enum-told : tie.Need-enum-told
 enum-told c = search needs
 
-enum-told-2 : tie.Need-enum-told-2
-enum-told-2 c = search needs
-
-enum-told-3 : tie.Need-enum-told-3
-enum-told-3 c = search needs
-
 returns : tie.Need-returns
 unfolding asked-at
 returns c = simp (c .before .enum-told .given .1, eq-eqb _ _ (c .match2 .keys1))
@@ -56,11 +50,9 @@ returns-10 c = simp (c .before .enum-told3 .given .1, ne-eqb _ _ (c .match4 .res
 
 pub asked-at-spec : {M : Type 1} → statement M
 asked-at-spec =
-    tie.close
-    (tie.spec
+    tie.close (tie.spec
     enum-told
-    enum-told-2
-    enum-told-3
+    (λ c. search needs) (λ c. search needs)
     returns
     returns-2
     returns-3

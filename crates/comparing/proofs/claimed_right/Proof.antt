@@ -4,9 +4,6 @@ use borrow.Author.Needs.{needs}
 use Rattle.comparing.proofs.claimed_right.Statement.{statement}
 use Rattle.comparing.proofs.claimed_right.Tie as tie
 
-field-requires : tie.Need-field-requires
-field-requires c κs = search needs
-
 returns : tie.Need-returns
 returns c = right-empty (c .before .before .field .ensures) _ _ _ (c .if1 .taken)
 
@@ -14,4 +11,8 @@ returns-2 : tie.Need-returns-2
 returns-2 c = right-there (c .before .before .field .ensures) _ _ _ (c .if1 .left)
 
 pub claimed-right-spec : {M : Type 1} → statement M
-claimed-right-spec = tie.close (tie.spec field-requires returns returns-2)
+claimed-right-spec =
+    tie.close (tie.spec
+    (λ c κs. search needs)
+    returns
+    returns-2)

@@ -4,28 +4,21 @@ use borrow.Author.Needs.{needs}
 use Rattle.comparing.proofs.led_equal.Statement.{statement}
 use Rattle.comparing.proofs.led_equal.Tie as tie
 
-led-requires : tie.Need-led-requires
-led-requires c κs = search needs
-
-enum-known-n : tie.Need-enum-known-n
-enum-known-n c = search needs
-
 enum-told : tie.Need-enum-told
 enum-told c = search needs
 
-equal-requires : tie.Need-equal-requires
-equal-requires c κs = search needs
-
 returns : tie.Need-returns
 returns c = led-fault (c .before .before .before .led .ensures) (c .before .n .given .1)
-
-same-length : tie.Need-same-length
-same-length c = search needs
 
 returns-2 : tie.Need-returns-2
 returns-2 c = led-on (c .before .before .before .before .before .before .led .ensures) (c .before .before .before .before .enum-told .given .1) (c .before .before .equal .ensures)
 
 pub led-equal-spec : {M : Type 1} → statement M
 led-equal-spec =
-    tie.close
-    (tie.spec led-requires enum-known-n enum-told equal-requires returns same-length returns-2)
+    tie.close (tie.spec
+    (λ c κs. search needs) (λ c. search needs)
+    enum-told
+    (λ c κs. search needs)
+    returns
+    (λ c. search needs)
+    returns-2)

@@ -4,28 +4,21 @@ use borrow.Author.Needs.{needs}
 use Rattle.descents.proofs.level_right.Statement.{statement}
 use Rattle.descents.proofs.level_right.Tie as tie
 
-check-requires : tie.Need-check-requires
-check-requires c κs = search needs
-
-enum-known-n : tie.Need-enum-known-n
-enum-known-n c = search needs
-
 enum-told : tie.Need-enum-told
 enum-told c = search needs
 
-same-length : tie.Need-same-length
-same-length c = search needs
-
 returns : tie.Need-returns
 returns c = level-fault (c .before .before .before .before .before .check .ensures) (c .before .n .given .1)
-
-same-length-2 : tie.Need-same-length-2
-same-length-2 c = search needs
 
 returns-2 : tie.Need-returns-2
 returns-2 c = level-good (c .before .before .before .before .check .ensures) (c .enum-told .given .1)
 
 pub level-right-spec : {M : Type 1} → statement M
 level-right-spec =
-    tie.close
-    (tie.spec check-requires enum-known-n enum-told same-length returns same-length-2 returns-2)
+    tie.close (tie.spec
+    (λ c κs. search needs) (λ c. search needs)
+    enum-told
+    (λ c. search needs)
+    returns
+    (λ c. search needs)
+    returns-2)

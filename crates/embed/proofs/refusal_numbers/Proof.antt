@@ -4,14 +4,11 @@ use borrow.Author.Needs.{needs}
 use Rattle.embed.proofs.refusal_numbers.Statement.{statement}
 use Rattle.embed.proofs.refusal_numbers.Tie as tie
 
-w-number-requires : tie.Need-w-number-requires
-w-number-requires c κs = search needs
-
-cast-number : tie.Need-cast-number
-cast-number c = search needs
-
 returns : tie.Need-returns
 returns c = of-refusal _ (c .before .w-number .ensures)
 
 pub refusal-numbers-spec : {M : Type 1} → statement M
-refusal-numbers-spec = tie.close (tie.spec w-number-requires cast-number returns)
+refusal-numbers-spec =
+    tie.close (tie.spec
+    (λ c κs. search needs) (λ c. search needs)
+    returns)

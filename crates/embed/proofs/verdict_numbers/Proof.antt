@@ -4,15 +4,6 @@ use borrow.Author.Needs.{needs}
 use Rattle.embed.proofs.verdict_numbers.Statement.{statement}
 use Rattle.embed.proofs.verdict_numbers.Tie as tie
 
-enum-known-verdict : tie.Need-enum-known-verdict
-enum-known-verdict c = search needs
-
-enum-known-verdict-2 : tie.Need-enum-known-verdict-2
-enum-known-verdict-2 c = search needs
-
-refusal-numbers-requires : tie.Need-refusal-numbers-requires
-refusal-numbers-requires c κs = search needs
-
 returns : tie.Need-returns
 returns c = of-accepted _ (c .before .verdict .given .1)
 
@@ -21,5 +12,7 @@ returns-2 c = of-denied (c .before .before .verdict2 .given .1) (c .refusal-numb
 
 pub verdict-numbers-spec : {M : Type 1} → statement M
 verdict-numbers-spec =
-    tie.close
-    (tie.spec enum-known-verdict enum-known-verdict-2 refusal-numbers-requires returns returns-2)
+    tie.close (tie.spec
+    (λ c. search needs) (λ c. search needs) (λ c κs. search needs)
+    returns
+    returns-2)

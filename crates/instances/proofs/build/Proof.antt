@@ -20,29 +20,14 @@ loop-holds c = pushing-start _ _ _ _ _ _ _ (omega arith)
 step-requires : tie.Need-step-requires Inv-loop μ-loop
 step-requires c κs = c .loop .inv .few
 
-enum-known-header : tie.Need-enum-known-header Inv-loop μ-loop
-enum-known-header c = search needs
-
 enum-told : tie.Need-enum-told Inv-loop μ-loop
 enum-told c = search needs
-
-same-length : tie.Need-same-length Inv-loop μ-loop
-same-length c = search needs
 
 returns : tie.Need-returns Inv-loop μ-loop
 returns c = built-over _ _ _ _ _ _ _ _ _ _ (c .before .before .before .loop .inv) (c .before .before .step .ensures) (c .enum-told .given .1)
 
 push-filled-requires : tie.Need-push-filled-requires Inv-loop μ-loop
 push-filled-requires c κs = building-fits _ _ _ _ _ _ _ _ _ _ _ _ _ (c .before .before .before .before .before .loop .inv) (c .before .before .before .before .before .before .before .before .before .before .pre) (omega arith) (omega arith)
-
-enum-known-k : tie.Need-enum-known-k Inv-loop μ-loop
-enum-known-k c = search needs
-
-enum-told-2 : tie.Need-enum-told-2 Inv-loop μ-loop
-enum-told-2 c = search needs
-
-same-length-2 : tie.Need-same-length-2 Inv-loop μ-loop
-same-length-2 c = search needs
 
 returns-2 : tie.Need-returns-2 Inv-loop μ-loop
 returns-2 c = built-full _ _ _ _ _ _ _ _ _ _ (pushing-full _ _ _ _ _ _ _ _ _ _ _ (c .before .before .before .before .before .before .before .before .before .before .loop .inv) (c .before .before .before .before .before .before .before .before .before .step .ensures) (c .before .before .before .before .before .before .before .header .given .1) (step-filled _ _ _ _ _ _ _ _ (c .before .before .before .before .before .before .before .before .before .before .before .before .before .before .before .pre .1) (c .before .before .before .before .before .before .before .before .before .before .loop .inv .holds .kept) (c .before .before .before .before .push-filled .ensures)) (c .enum-told2 .given .1))
@@ -58,20 +43,17 @@ loop-again c = pushing-on _ _ _ _ _ _ _ _ _ _ _ (c .before .before .before .befo
 
 pub build-spec : {M : Type 1} → statement M
 build-spec =
-    tie.close
-    (tie.spec
+    tie.close (tie.spec
     Inv-loop
     μ-loop
     loop-holds
     step-requires
-    enum-known-header
+    (λ c. search needs)
     enum-told
-    same-length
+    (λ c. search needs)
     returns
     push-filled-requires
-    enum-known-k
-    enum-told-2
-    same-length-2
+    (λ c. search needs) (λ c. search needs) (λ c. search needs)
     returns-2
     sub-left
     loop-less

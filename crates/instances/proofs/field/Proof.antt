@@ -4,14 +4,8 @@ use borrow.Author.Needs.{needs}
 use Rattle.instances.proofs.field.Statement.{statement}
 use Rattle.instances.proofs.field.Tie as tie
 
-take-requires : tie.Need-take-requires
-take-requires c κs = search needs
-
 enum-told : tie.Need-enum-told
 enum-told c = search needs
-
-enum-known-v : tie.Need-enum-known-v
-enum-known-v c = search needs
 
 returns : tie.Need-returns
 returns c = takes-past _ _ _ (c .before .before .before .before .pre) (c .before .before .take .ensures) (c .enum-told .given .1)
@@ -20,4 +14,10 @@ returns-2 : tie.Need-returns-2
 returns-2 c = takes-got _ _ _ (c .before .before .before .before .before .pre) _ _ (c .before .before .before .take .ensures) (c .before .v .given .1)
 
 pub field-spec : {M : Type 1} → statement M
-field-spec = tie.close (tie.spec take-requires enum-told enum-known-v returns returns-2)
+field-spec =
+    tie.close (tie.spec
+    (λ c κs. search needs)
+    enum-told
+    (λ c. search needs)
+    returns
+    returns-2)

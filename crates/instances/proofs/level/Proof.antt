@@ -18,17 +18,11 @@ loop-holds c = levelling-start _ _ _
 step-requires : tie.Need-step-requires Inv-loop μ-loop
 step-requires c κs = c .loop .inv .few
 
-enum-known-header : tie.Need-enum-known-header Inv-loop μ-loop
-enum-known-header c = search needs
-
 enum-told : tie.Need-enum-told Inv-loop μ-loop
 enum-told c = search needs
 
 returns : tie.Need-returns Inv-loop μ-loop
 returns c = levelling-over (c .before .before .before .loop .inv) (c .before .before .step .ensures) (c .enum-told .given .1)
-
-level-node-requires : tie.Need-level-node-requires Inv-loop μ-loop
-level-node-requires c κs = search needs
 
 returns-2 : tie.Need-returns-2 Inv-loop μ-loop
 returns-2 c = levelling-not (c .before .before .before .before .before .before .loop .inv) (c .before .before .before .before .before .step .ensures) (c .before .before .before .header .given .1) _ (c .before .level-node .ensures) (c .if1 .taken)
@@ -44,16 +38,15 @@ loop-again c = levelling-on (c .before .before .before .before .before .before .
 
 pub level-spec : {M : Type 1} → statement M
 level-spec =
-    tie.close
-    (tie.spec
+    tie.close (tie.spec
     Inv-loop
     μ-loop
     loop-holds
     step-requires
-    enum-known-header
+    (λ c. search needs)
     enum-told
     returns
-    level-node-requires
+    (λ c κs. search needs)
     returns-2
     sub-left
     loop-less

@@ -7,15 +7,6 @@ use Rattle.instances.proofs.level_node.Tie as tie
 enum-told : tie.Need-enum-told
 enum-told c = search needs
 
-enum-told-2 : tie.Need-enum-told-2
-enum-told-2 c = search needs
-
-enum-known-header : tie.Need-enum-known-header
-enum-known-header c = search needs
-
-enum-told-3 : tie.Need-enum-told-3
-enum-told-3 c = search needs
-
 returns : tie.Need-returns
 returns c = level-node-variable _ _ _ (c .enum-told .given .1)
 
@@ -30,12 +21,9 @@ returns-4 c = level-node-missing _ (c .enum-told3 .given .1)
 
 pub level-node-spec : {M : Type 1} → statement M
 level-node-spec =
-    tie.close
-    (tie.spec
+    tie.close (tie.spec
     enum-told
-    enum-told-2
-    enum-known-header
-    enum-told-3
+    (λ c. search needs) (λ c. search needs) (λ c. search needs)
     returns
     returns-2
     returns-3

@@ -5,27 +5,6 @@ use borrow.Author.Needs.{needs}
 use Rattle.instances.proofs.next.Statement.{statement}
 use Rattle.instances.proofs.next.Tie as tie
 
-enum-known-header : tie.Need-enum-known-header
-enum-known-header c = search needs
-
-sub-t8 : tie.Need-sub-t8
-sub-t8 c = search needs
-
-enum-known-header-2 : tie.Need-enum-known-header-2
-enum-known-header-2 c = search needs
-
-sub-t9 : tie.Need-sub-t9
-sub-t9 c = search needs
-
-cast-t10 : tie.Need-cast-t10
-cast-t10 c = search needs
-
-add-t11 : tie.Need-add-t11
-add-t11 c = search needs
-
-enum-known-header-3 : tie.Need-enum-known-header-3
-enum-known-header-3 c = search needs
-
 enum-told : tie.Need-enum-told
 enum-told c = search needs
 
@@ -47,15 +26,9 @@ returns-4 c = record { is = simp (c .enum-told .given .1); few = omega arith }
 
 pub next-spec : {M : Type 1} → statement M
 next-spec =
-    tie.close
-    (tie.spec
-    enum-known-header
-    sub-t8
-    enum-known-header-2
-    sub-t9
-    cast-t10
-    add-t11
-    enum-known-header-3
+    tie.close (tie.spec
+    (λ c. search needs) (λ c. search needs) (λ c. search needs) (λ c. search needs) (λ c. search needs)
+    (λ c. search needs) (λ c. search needs)
     enum-told
     returns
     returns-2

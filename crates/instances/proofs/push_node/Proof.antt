@@ -4,23 +4,11 @@ use borrow.Author.Needs.{needs}
 use Rattle.instances.proofs.push_node.Statement.{statement}
 use Rattle.instances.proofs.push_node.Tie as tie
 
-enum-known-header : tie.Need-enum-known-header
-enum-known-header c = search needs
-
 push-requires : tie.Need-push-requires
 push-requires c κs = (c .before .before .before .before .before .pre .0, named-fits _ _ (c .before .before .before .before .before .pre .1))
 
-enum-known-header-2 : tie.Need-enum-known-header-2
-enum-known-header-2 c = search needs
-
 push-requires-2 : tie.Need-push-requires-2
 push-requires-2 c κs = (c .before .before .before .before .before .pre .0, applied-fits _ _ (c .before .before .before .before .before .pre .1))
-
-enum-known-header-3 : tie.Need-enum-known-header-3
-enum-known-header-3 c = search needs
-
-reindexed-requires : tie.Need-reindexed-requires
-reindexed-requires c κs = search needs
 
 push-requires-3 : tie.Need-push-requires-3
 push-requires-3 c κs = (c .before .before .before .before .before .before .pre .0, fits _ _ (c .reindexed .ensures .light) (c .before .before .before .before .before .before .pre .1))
@@ -28,20 +16,11 @@ push-requires-3 c κs = (c .before .before .before .before .before .before .pre 
 enum-told : tie.Need-enum-told
 enum-told c = search needs
 
-same-length : tie.Need-same-length
-same-length c = search needs
-
 returns : tie.Need-returns
 returns c = node-variable _ _ _ _ _ _ _ _ _ _ (c .before .before .before .before .before .header .given .1) (c .before .before .push .ensures)
 
-same-length-2 : tie.Need-same-length-2
-same-length-2 c = search needs
-
 returns-2 : tie.Need-returns-2
 returns-2 c = node-symbol _ _ _ _ _ _ _ _ _ _ _ (c .before .before .before .before .before .header2 .given .1) (c .before .before .push2 .ensures)
-
-same-length-3 : tie.Need-same-length-3
-same-length-3 c = search needs
 
 returns-3 : tie.Need-returns-3
 returns-3 c = node-power _ _ _ _ _ _ _ _ _ _ _ _ _ (c .before .before .before .before .before .before .header3 .given .1) (c .before .before .before .reindexed .ensures) (c .before .before .push3 .ensures)
@@ -51,20 +30,18 @@ returns-4 c = node-missing _ _ _ _ _ _ (c .before .before .before .pre .0 .few) 
 
 pub push-node-spec : {M : Type 1} → statement M
 push-node-spec =
-    tie.close
-    (tie.spec
-    enum-known-header
+    tie.close (tie.spec
+    (λ c. search needs)
     push-requires
-    enum-known-header-2
+    (λ c. search needs)
     push-requires-2
-    enum-known-header-3
-    reindexed-requires
+    (λ c. search needs) (λ c κs. search needs)
     push-requires-3
     enum-told
-    same-length
+    (λ c. search needs)
     returns
-    same-length-2
+    (λ c. search needs)
     returns-2
-    same-length-3
+    (λ c. search needs)
     returns-3
     returns-4)

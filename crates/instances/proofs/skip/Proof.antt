@@ -17,9 +17,6 @@ loop-holds c = going-start _ _ _ tt
 step-requires : tie.Need-step-requires Inv-loop μ-loop
 step-requires c κs = c .loop .inv .few
 
-enum-known-place : tie.Need-enum-known-place Inv-loop μ-loop
-enum-known-place c = search needs
-
 enum-told : tie.Need-enum-told Inv-loop μ-loop
 enum-told c = search needs
 
@@ -37,13 +34,12 @@ loop-again c = going-on (c .before .before .before .before .loop .inv) (c .befor
 
 pub skip-spec : {M : Type 1} → statement M
 skip-spec =
-    tie.close
-    (tie.spec
+    tie.close (tie.spec
     Inv-loop
     μ-loop
     loop-holds
     step-requires
-    enum-known-place
+    (λ c. search needs)
     enum-told
     returns
     sub-left

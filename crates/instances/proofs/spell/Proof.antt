@@ -19,29 +19,14 @@ loop-holds c = pushing-start _ _ _ _ _ _ _ (c .before .before .before .pre .0 .f
 step-requires : tie.Need-step-requires Inv-loop μ-loop
 step-requires c κs = c .loop .inv .few
 
-enum-known-header : tie.Need-enum-known-header Inv-loop μ-loop
-enum-known-header c = search needs
-
 enum-told : tie.Need-enum-told Inv-loop μ-loop
 enum-told c = search needs
-
-same-length : tie.Need-same-length Inv-loop μ-loop
-same-length c = search needs
 
 returns : tie.Need-returns Inv-loop μ-loop
 returns c = spelled _ _ _ _ (pushing-over _ _ _ _ _ _ _ _ _ _ _ (c .before .before .before .loop .inv) (c .before .before .step .ensures) (c .enum-told .given .1))
 
 push-node-requires : tie.Need-push-node-requires Inv-loop μ-loop
 push-node-requires c κs = spelling-fits _ _ _ _ _ _ _ _ _ _ (c .before .before .before .before .before .loop .inv) (c .before .before .before .before .before .before .before .before .before .pre)
-
-enum-known-k : tie.Need-enum-known-k Inv-loop μ-loop
-enum-known-k c = search needs
-
-enum-told-2 : tie.Need-enum-told-2 Inv-loop μ-loop
-enum-told-2 c = search needs
-
-same-length-2 : tie.Need-same-length-2 Inv-loop μ-loop
-same-length-2 c = search needs
 
 returns-2 : tie.Need-returns-2 Inv-loop μ-loop
 returns-2 c = spelled _ _ _ _ (pushing-full _ _ _ _ _ _ _ _ _ _ _ (c .before .before .before .before .before .before .before .before .before .before .loop .inv) (c .before .before .before .before .before .before .before .before .before .step .ensures) (c .before .before .before .before .before .before .before .header .given .1) (step-plain _ _ (c .before .before .before .before .push-node .ensures)) (c .enum-told2 .given .1))
@@ -57,20 +42,17 @@ loop-again c = pushing-on _ _ _ _ _ _ _ _ _ _ _ (c .before .before .before .befo
 
 pub spell-spec : {M : Type 1} → statement M
 spell-spec =
-    tie.close
-    (tie.spec
+    tie.close (tie.spec
     Inv-loop
     μ-loop
     loop-holds
     step-requires
-    enum-known-header
+    (λ c. search needs)
     enum-told
-    same-length
+    (λ c. search needs)
     returns
     push-node-requires
-    enum-known-k
-    enum-told-2
-    same-length-2
+    (λ c. search needs) (λ c. search needs) (λ c. search needs)
     returns-2
     sub-left
     loop-less

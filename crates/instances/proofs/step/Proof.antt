@@ -10,14 +10,13 @@ returns c = step-spent _ _ _ _ (c .if1 .taken)
 returns-2 : tie.Need-returns-2
 returns-2 c = step-done _ _ _ _ (c .if2 .taken)
 
-header-at-requires : tie.Need-header-at-requires
-header-at-requires c κs = search needs
-
-next-requires : tie.Need-next-requires
-next-requires c κs = search needs
-
 returns-3 : tie.Need-returns-3
 returns-3 c = step-node _ _ _ _ (c .before .before .before .if1 .left) (c .before .before .if2 .left) (c .before .before .before .before .before .before .pre) (c .before .header-at .ensures) (c .next .ensures)
 
 pub step-spec : {M : Type 1} → statement M
-step-spec = tie.close (tie.spec returns returns-2 header-at-requires next-requires returns-3)
+step-spec =
+    tie.close (tie.spec
+    returns
+    returns-2
+    (λ c κs. search needs) (λ c κs. search needs)
+    returns-3)

@@ -6,33 +6,12 @@ use borrow.Author.Needs.{needs}
 use Rattle.instances.proofs.word_of.Statement.{statement}
 use Rattle.instances.proofs.word_of.Tie as tie
 
-enum-known-header : tie.Need-enum-known-header
-enum-known-header c = search needs
-
-cast-result : tie.Need-cast-result
-cast-result c = search needs
-
-add-result : tie.Need-add-result
-add-result c = search needs
-
-mul-result : tie.Need-mul-result
-mul-result c = search needs
-
-shared-slice-read-result : tie.Need-shared-slice-read-result
-shared-slice-read-result c = search needs
-
 returns : tie.Need-returns
 unfolding wordOf entry
 returns c = simp (c .before .before .before .header .given .1, lt-ltb _ _ (c .before .if1 .taken))
 
 enum-told : tie.Need-enum-told
 enum-told c = search needs
-
-enum-told-2 : tie.Need-enum-told-2
-enum-told-2 c = search needs
-
-enum-told-3 : tie.Need-enum-told-3
-enum-told-3 c = search needs
 
 returns-2 : tie.Need-returns-2
 unfolding wordOf entry
@@ -52,17 +31,11 @@ returns-5 c = simp (c .enum-told3 .given .1)
 
 pub word-of-spec : {M : Type 1} → statement M
 word-of-spec =
-    tie.close
-    (tie.spec
-    enum-known-header
-    cast-result
-    add-result
-    mul-result
-    shared-slice-read-result
+    tie.close (tie.spec
+    (λ c. search needs) (λ c. search needs) (λ c. search needs) (λ c. search needs) (λ c. search needs)
     returns
     enum-told
-    enum-told-2
-    enum-told-3
+    (λ c. search needs) (λ c. search needs)
     returns-2
     returns-3
     returns-4

@@ -5,17 +5,11 @@ use borrow.Author.Needs.{needs}
 use Rattle.judging.proofs.book_length.Statement.{statement}
 use Rattle.judging.proofs.book_length.Tie as tie
 
-shared-slice-read-result : tie.Need-shared-slice-read-result
-shared-slice-read-result c = search needs
-
 cast-result : tie.Need-cast-result
 cast-result c = omega (arith, c .shared-slice-known .given 0)
 
 mul-result : tie.Need-mul-result
 mul-result c = omega (arith, c .shared-slice-known .given 0)
-
-shared-slice-read-result-2 : tie.Need-shared-slice-read-result-2
-shared-slice-read-result-2 c = search needs
 
 cast-result-2 : tie.Need-cast-result-2
 cast-result-2 c = omega (arith, c .shared-slice-known2 .given 1)
@@ -29,12 +23,11 @@ returns c = omega (arith, c .shared-slice-known2 .given 0, c .shared-slice-known
 
 pub book-length-spec : {M : Type 1} → statement M
 book-length-spec =
-    tie.close
-    (tie.spec
-    shared-slice-read-result
+    tie.close (tie.spec
+    (λ c. search needs)
     cast-result
     mul-result
-    shared-slice-read-result-2
+    (λ c. search needs)
     cast-result-2
     add-result
     returns)

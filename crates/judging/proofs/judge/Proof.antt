@@ -9,39 +9,20 @@ use borrow.Author.Needs.{needs}
 use Rattle.judging.proofs.judge.Statement.{statement}
 use Rattle.judging.proofs.judge.Tie as tie
 
-is-short-requires : tie.Need-is-short-requires
-is-short-requires c κs = search needs
-
-short-table-requires : tie.Need-short-table-requires
-short-table-requires c κs = search needs
-
-same-length : tie.Need-same-length
-same-length c = search needs
-
 returns : tie.Need-returns
 returns c = let h = says-true _ (c .before .before .is-short .ensures) (c .before .if1 .taken) in record { book-bytes = λ i. c .before .before .before .before .before .before .shared-slice-known .given i .fits; bytes = λ i. c .before .before .before .before .before .shared-slice-known2 .given i .fits; answered = c .short-table .ensures ∙ sym (table-short _ _ _ h); cleared = left-short _ h }
 
 judge-files-requires : tie.Need-judge-files-requires
 judge-files-requires c κs = not-less (says-false _ (c .before .before .is-short .ensures) (c .before .if1 .left))
 
-cleared-requires : tie.Need-cleared-requires
-cleared-requires c κs = search needs
-
-same-length-2 : tie.Need-same-length-2
-same-length-2 c = search needs
-
 returns-2 : tie.Need-returns-2
 returns-2 c = let h = not-less (says-false _ (c .before .before .before .before .before .before .before .before .before .is-short .ensures) (c .before .before .before .before .before .before .before .before .if1 .left)) in record { book-bytes = λ i. c .before .before .before .before .before .before .before .before .before .before .before .before .before .shared-slice-known .given i .fits; bytes = λ i. c .before .before .before .before .before .before .before .before .before .before .before .before .shared-slice-known2 .given i .fits; answered = ap paper-verdict (c .before .before .cleared .ensures .0) ∙ c .before .before .before .before .before .before .judge-files .ensures .0 ∙ sym (table-enough _ _ _ h); cleared = left-cleared _ h (c .before .before .cleared .ensures .1 ∙ ap (λ n. replicate n 0) (c .before .before .before .before .before .before .judge-files .ensures .1)) }
 
 pub judge-spec : {M : Type 1} → statement M
 judge-spec =
-    tie.close
-    (tie.spec
-    is-short-requires
-    short-table-requires
-    same-length
+    tie.close (tie.spec
+    (λ c κs. search needs) (λ c κs. search needs) (λ c. search needs)
     returns
     judge-files-requires
-    cleared-requires
-    same-length-2
+    (λ c κs. search needs) (λ c. search needs)
     returns-2)

@@ -11,31 +11,13 @@ use borrow.Author.Needs.{needs}
 use Rattle.judging.proofs.judge_files.Statement.{statement}
 use Rattle.judging.proofs.judge_files.Tie as tie
 
-whole-requires : tie.Need-whole-requires
-whole-requires c κs = search needs
-
 returns : tie.Need-returns
 unfolding w-of
 returns c = (refused-verdict _ (c .whole .ensures) ∙ sym (book-long _ _ (c .before .if1 .taken)), refl)
 
-whole-requires-2 : tie.Need-whole-requires-2
-whole-requires-2 c κs = search needs
-
 returns-2 : tie.Need-returns-2
 unfolding w-of
 returns-2 c = (refused-verdict _ (c .whole2 .ensures) ∙ sym (certificate-long _ _ (c .before .before .if1 .left) (c .before .if2 .taken)), refl)
-
-slice-aggregate-open-book : tie.Need-slice-aggregate-open-book
-slice-aggregate-open-book c = search needs
-
-open-book-requires : tie.Need-open-book-requires
-open-book-requires c κs = search needs
-
-enum-known-r : tie.Need-enum-known-r
-enum-known-r c = search needs
-
-enum-known-m : tie.Need-enum-known-m
-enum-known-m c = search needs
 
 array-share-prefix-counts : tie.Need-array-share-prefix-counts
 array-share-prefix-counts c = let h = few-rules (c .before .before .before .before .open-book .ensures) (c .before .m .given .1) in search needs
@@ -50,27 +32,20 @@ returns-3 : tie.Need-returns-3
 unfolding paper-verdict
 returns-3 c = (sym (both-short _ _ (c .before .before .before .before .before .before .before .if1 .left) (c .before .before .before .before .before .before .if2 .left) ∙ book-refused _ _ _ (opening-shut _ _ (c .before .before .before .before .open-book .ensures .told) (c .before .r .given .1))), refl)
 
-same-length : tie.Need-same-length
-same-length c = search needs
-
 returns-4 : tie.Need-returns-4
 returns-4 c = (c .before .before .judge-certificate .ensures .0 ∙ sym (both-short _ _ (c .before .before .before .before .before .before .before .before .before .before .before .before .if1 .left) (c .before .before .before .before .before .before .before .before .before .before .before .if2 .left)), c .before .before .judge-certificate .ensures .1)
 
 pub judge-files-spec : {M : Type 1} → statement M
 judge-files-spec =
-    tie.close
-    (tie.spec
-    whole-requires
+    tie.close (tie.spec
+    (λ c κs. search needs)
     returns
-    whole-requires-2
+    (λ c κs. search needs)
     returns-2
-    slice-aggregate-open-book
-    open-book-requires
-    enum-known-r
-    enum-known-m
+    (λ c. search needs) (λ c κs. search needs) (λ c. search needs) (λ c. search needs)
     array-share-prefix-counts
     slice-aggregate-judge-certificate
     judge-certificate-requires
     returns-3
-    same-length
+    (λ c. search needs)
     returns-4)

@@ -5,12 +5,12 @@ use borrow.Author.Needs.{needs}
 use Rattle.judging.proofs.short_table.Statement.{statement}
 use Rattle.judging.proofs.short_table.Tie as tie
 
-whole-requires : tie.Need-whole-requires
-whole-requires c κs = search needs
-
 returns : tie.Need-returns
 unfolding w-of
 returns c = refused-verdict _ (c .whole .ensures)
 
 pub short-table-spec : {M : Type 1} → statement M
-short-table-spec = tie.close (tie.spec whole-requires returns)
+short-table-spec =
+    tie.close (tie.spec
+    (λ c κs. search needs)
+    returns)

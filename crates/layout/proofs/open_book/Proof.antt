@@ -6,35 +6,16 @@ use borrow.Author.Needs.{needs}
 use Rattle.layout.proofs.open_book.Statement.{statement}
 use Rattle.layout.proofs.open_book.Tie as tie
 
-slice-aggregate-book : tie.Need-slice-aggregate-book
-slice-aggregate-book c = search needs
-
-slice-aggregate-book-2 : tie.Need-slice-aggregate-book-2
-slice-aggregate-book-2 c = search needs
-
-slice-aggregate-book-3 : tie.Need-slice-aggregate-book-3
-slice-aggregate-book-3 c = search needs
-
-book-requires : tie.Need-book-requires
-book-requires c κs = search needs
-
 opened-requires : tie.Need-opened-requires
 opened-requires c κs = (omega (arith, c .before .before .before .before .before .before .before .before .before .before .before .pre .0), inside-bytes _ _ _ (c .before .before .before .before .book .ensures .0))
-
-same-length : tie.Need-same-length
-same-length c = search needs
 
 returns : tie.Need-returns
 returns c = book-opened _ (c .before .before .before .before .before .book .ensures .0) (c .before .before .before .before .before .book .ensures .1) (c .before .before .before .before .before .before .before .before .before .before .before .before .pre .1) (c .opened .ensures)
 
 pub open-book-spec : {M : Type 1} → statement M
 open-book-spec =
-    tie.close
-    (tie.spec
-    slice-aggregate-book
-    slice-aggregate-book-2
-    slice-aggregate-book-3
-    book-requires
+    tie.close (tie.spec
+    (λ c. search needs) (λ c. search needs) (λ c. search needs) (λ c κs. search needs)
     opened-requires
-    same-length
+    (λ c. search needs)
     returns)

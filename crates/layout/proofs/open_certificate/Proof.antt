@@ -7,15 +7,6 @@ use borrow.Author.Needs.{needs}
 use Rattle.layout.proofs.open_certificate.Statement.{statement}
 use Rattle.layout.proofs.open_certificate.Tie as tie
 
-slice-aggregate-certificate : tie.Need-slice-aggregate-certificate
-slice-aggregate-certificate c = search needs
-
-slice-aggregate-certificate-2 : tie.Need-slice-aggregate-certificate-2
-slice-aggregate-certificate-2 c = search needs
-
-slice-aggregate-certificate-3 : tie.Need-slice-aggregate-certificate-3
-slice-aggregate-certificate-3 c = search needs
-
 certificate-requires : tie.Need-certificate-requires
 certificate-requires c κs = few-counts _ [] _ (c .before .before .before .before .before .before .pre .0)
 
@@ -27,11 +18,8 @@ returns c = certificate-opened _ _ (c .before .before .before .before .before .b
 
 pub open-certificate-spec : {M : Type 1} → statement M
 open-certificate-spec =
-    tie.close
-    (tie.spec
-    slice-aggregate-certificate
-    slice-aggregate-certificate-2
-    slice-aggregate-certificate-3
+    tie.close (tie.spec
+    (λ c. search needs) (λ c. search needs) (λ c. search needs)
     certificate-requires
     opened-requires
     returns)

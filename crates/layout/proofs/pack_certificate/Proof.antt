@@ -16,49 +16,16 @@ use borrow.Author.Needs.{needs}
 use Rattle.layout.proofs.pack_certificate.Statement.{statement}
 use Rattle.layout.proofs.pack_certificate.Tie as tie
 
-slice-aggregate-certificate : tie.Need-slice-aggregate-certificate
-slice-aggregate-certificate c = search needs
-
-slice-aggregate-certificate-2 : tie.Need-slice-aggregate-certificate-2
-slice-aggregate-certificate-2 c = search needs
-
-slice-aggregate-certificate-3 : tie.Need-slice-aggregate-certificate-3
-slice-aggregate-certificate-3 c = search needs
-
 certificate-requires : tie.Need-certificate-requires
 certificate-requires c κs = few-counts _ [] _ (c .before .before .before .before .before .before .before .pre)
-
-opened-list-requires : tie.Need-opened-list-requires
-opened-list-requires c κs = search needs
-
-enum-known-r : tie.Need-enum-known-r
-enum-known-r c = search needs
-
-enum-known-k : tie.Need-enum-known-k
-enum-known-k c = search needs
-
-bytes-for-requires : tie.Need-bytes-for-requires
-bytes-for-requires c κs = search needs
-
-whole-requires : tie.Need-whole-requires
-whole-requires c κs = search needs
 
 returns : tie.Need-returns
 unfolding w-of
 returns c = let g = opening-good _ _ (list-told _ (certificate-of (c .before .before .before .before .before .before .before .before .before .before .before .before .before .before .before .before .before .pre .tree)) nothing _ Certificate (beside-ran _ _ _ (c .before .before .before .before .before .before .before .before .before .before .before .before .before .before .before .before .before .pre) (c .before .before .before .before .before .before .before .before .before .certificate .ensures)) (c .before .before .before .before .before .before .opened-list .ensures)) (c .before .before .before .before .k .given .1) in packed-over certificate-place _ _ g 32768 (writing-is _ _ (c .before .before .before .before .before .before .before .before .before .before .before .before .before .before .before .before .before .pre) _) _ (omega (arith, c .before .if1 .taken, c .before .before .bytes-for .ensures)) (refused-answer _ (c .whole .ensures))
 
-whole-requires-2 : tie.Need-whole-requires-2
-whole-requires-2 c κs = search needs
-
 returns-2 : tie.Need-returns-2
 unfolding w-of
 returns-2 c = let g = opening-good _ _ (list-told _ (certificate-of (c .before .before .before .before .before .before .before .before .before .before .before .before .before .before .before .before .before .before .pre .tree)) nothing _ Certificate (beside-ran _ _ _ (c .before .before .before .before .before .before .before .before .before .before .before .before .before .before .before .before .before .before .pre) (c .before .before .before .before .before .before .before .before .before .before .certificate .ensures)) (c .before .before .before .before .before .before .before .opened-list .ensures)) (c .before .before .before .before .before .k .given .1) in packed-short certificate-place _ _ g 32768 (writing-is _ _ (c .before .before .before .before .before .before .before .before .before .before .before .before .before .before .before .before .before .before .pre) _) _ (omega (arith, c .before .before .if1 .left, c .before .before .before .bytes-for .ensures)) (omega (arith, c .before .if2 .taken, c .before .before .before .bytes-for .ensures)) (refused-answer _ (c .whole2 .ensures))
-
-slice-aggregate-certificate-4 : tie.Need-slice-aggregate-certificate-4
-slice-aggregate-certificate-4 c = search needs
-
-slice-aggregate-certificate-5 : tie.Need-slice-aggregate-certificate-5
-slice-aggregate-certificate-5 c = search needs
 
 certificate-requires-2 : tie.Need-certificate-requires-2
 certificate-requires-2 c κs = few-counts _ [] _ (c .before .before .before .before .before .before .before .before .before .before .before .before .before .before .before .before .before .before .before .before .pre)
@@ -67,32 +34,21 @@ returns-3 : tie.Need-returns-3
 unfolding w-of
 returns-3 c = answers-shut _ _ _ _ (writing-is _ _ (c .before .before .before .before .before .before .before .before .before .before .before .before .before .before .pre) _ ∙ bad-written certificate-place 32768 _ (opening-shut _ _ (list-told _ (certificate-of (c .before .before .before .before .before .before .before .before .before .before .before .before .before .before .pre .tree)) nothing _ Certificate (beside-ran _ _ _ (c .before .before .before .before .before .before .before .before .before .before .before .before .before .before .pre) (c .before .before .before .before .before .before .certificate .ensures)) (c .before .before .before .opened-list .ensures)) (c .before .r .given .1)))
 
-same-length : tie.Need-same-length
-same-length c = search needs
-
 returns-4 : tie.Need-returns-4
 unfolding w-of
 returns-4 c = let g = opening-good _ _ (list-told _ (certificate-of (c .before .before .before .before .before .before .before .before .before .before .before .before .before .before .before .before .before .before .before .before .before .before .before .before .pre .tree)) nothing _ Certificate (beside-ran _ _ _ (c .before .before .before .before .before .before .before .before .before .before .before .before .before .before .before .before .before .before .before .before .before .before .before .before .pre) (c .before .before .before .before .before .before .before .before .before .before .before .before .before .before .before .before .certificate .ensures)) (c .before .before .before .before .before .before .before .before .before .before .before .before .before .opened-list .ensures)) (c .before .before .before .before .before .before .before .before .before .before .before .k .given .1) in packed-filled certificate-place _ _ g 32768 (writing-is _ _ (c .before .before .before .before .before .before .before .before .before .before .before .before .before .before .before .before .before .before .before .before .before .before .before .before .pre) _) (c .before .before .before .before .before .before .before .before .before .bytes-for .ensures) (c .before .before .before .before .before .before .before .before .if1 .left) (omega arith) (c .before .before .before .before .before .before .before .if2 .left) (beside-ran _ _ _ (c .before .before .before .before .before .before .before .before .before .before .before .before .before .before .before .before .before .before .before .before .before .before .before .before .pre) (c .before .before .before .certificate2 .ensures))
 
 pub pack-certificate-spec : {M : Type 1} → statement M
 pack-certificate-spec =
-    tie.close
-    (tie.spec
-    slice-aggregate-certificate
-    slice-aggregate-certificate-2
-    slice-aggregate-certificate-3
+    tie.close (tie.spec
+    (λ c. search needs) (λ c. search needs) (λ c. search needs)
     certificate-requires
-    opened-list-requires
-    enum-known-r
-    enum-known-k
-    bytes-for-requires
-    whole-requires
+    (λ c κs. search needs) (λ c. search needs) (λ c. search needs) (λ c κs. search needs) (λ c κs. search needs)
     returns
-    whole-requires-2
+    (λ c κs. search needs)
     returns-2
-    slice-aggregate-certificate-4
-    slice-aggregate-certificate-5
+    (λ c. search needs) (λ c. search needs)
     certificate-requires-2
     returns-3
-    same-length
+    (λ c. search needs)
     returns-4)

@@ -13,49 +13,16 @@ use borrow.Author.Needs.{needs}
 use Rattle.layout.proofs.read_book.Statement.{statement}
 use Rattle.layout.proofs.read_book.Tie as tie
 
-whole-requires : tie.Need-whole-requires
-whole-requires c κs = search needs
-
 returns : tie.Need-returns
 unfolding w-of
 returns c = record { bytes = λ i. c .before .before .before .shared-slice-known .given i .fits; answers = answers-refusal _ _ _ _ (book-too-long _ (c .before .if1 .taken)) (refused-answer _ (c .whole .ensures)) }
-
-slice-aggregate-open-book : tie.Need-slice-aggregate-open-book
-slice-aggregate-open-book c = search needs
-
-open-book-requires : tie.Need-open-book-requires
-open-book-requires c κs = search needs
-
-enum-known-r : tie.Need-enum-known-r
-enum-known-r c = search needs
-
-enum-known-n : tie.Need-enum-known-n
-enum-known-n c = search needs
-
-whole-requires-2 : tie.Need-whole-requires-2
-whole-requires-2 c κs = search needs
 
 returns-2 : tie.Need-returns-2
 unfolding w-of open-book
 returns-2 c = record { bytes = λ i. c .before .before .before .before .before .before .before .before .before .before .shared-slice-known .given i .fits; answers = listed-short book-place a-book _ (opening-good _ _ (c .before .before .before .before .before .before .open-book .ensures .told) (c .before .before .before .n .given .1)) (book-read _ (c .before .before .before .before .before .before .before .before .if1 .left)) _ (c .before .if2 .taken) (refused-answer _ (c .whole2 .ensures)) }
 
-slice-aggregate-book : tie.Need-slice-aggregate-book
-slice-aggregate-book c = search needs
-
-slice-aggregate-book-2 : tie.Need-slice-aggregate-book-2
-slice-aggregate-book-2 c = search needs
-
-slice-aggregate-book-3 : tie.Need-slice-aggregate-book-3
-slice-aggregate-book-3 c = search needs
-
-book-requires : tie.Need-book-requires
-book-requires c κs = search needs
-
 returns-3 : tie.Need-returns-3
 returns-3 c = record { bytes = λ i. c .before .before .before .before .before .before .before .before .shared-slice-known .given i .fits; answers = answers-shut _ _ _ _ (book-read _ (c .before .before .before .before .before .before .if1 .left) ∙ bad-listed _ (opening-shut _ _ (c .before .before .before .before .open-book .ensures .told) (c .before .r .given .1))) }
-
-same-length : tie.Need-same-length
-same-length c = search needs
 
 returns-4 : tie.Need-returns-4
 unfolding open-book
@@ -63,20 +30,12 @@ returns-4 c = record { bytes = λ i. c .before .before .before .before .before .
 
 pub read-book-spec : {M : Type 1} → statement M
 read-book-spec =
-    tie.close
-    (tie.spec
-    whole-requires
+    tie.close (tie.spec
+    (λ c κs. search needs)
     returns
-    slice-aggregate-open-book
-    open-book-requires
-    enum-known-r
-    enum-known-n
-    whole-requires-2
+    (λ c. search needs) (λ c κs. search needs) (λ c. search needs) (λ c. search needs) (λ c κs. search needs)
     returns-2
-    slice-aggregate-book
-    slice-aggregate-book-2
-    slice-aggregate-book-3
-    book-requires
+    (λ c. search needs) (λ c. search needs) (λ c. search needs) (λ c κs. search needs)
     returns-3
-    same-length
+    (λ c. search needs)
     returns-4)

@@ -11,31 +11,13 @@ use borrow.Author.Needs.{needs}
 use Rattle.layout.proofs.read_certificate.Statement.{statement}
 use Rattle.layout.proofs.read_certificate.Tie as tie
 
-whole-requires : tie.Need-whole-requires
-whole-requires c κs = search needs
-
 returns : tie.Need-returns
 unfolding w-of
 returns c = record { book-bytes = λ i. c .before .before .before .before .shared-slice-known .given i .fits; bytes = λ i. c .before .before .before .shared-slice-known2 .given i .fits; answers = answers-refusal _ _ _ _ (certificate-book-long _ _ (c .before .if1 .taken)) (refused-answer _ (c .whole .ensures)) }
 
-whole-requires-2 : tie.Need-whole-requires-2
-whole-requires-2 c κs = search needs
-
 returns-2 : tie.Need-returns-2
 unfolding w-of
 returns-2 c = record { book-bytes = λ i. c .before .before .before .before .before .shared-slice-known .given i .fits; bytes = λ i. c .before .before .before .before .shared-slice-known2 .given i .fits; answers = answers-refusal _ _ _ _ (certificate-long _ _ (c .before .before .if1 .left) (c .before .if2 .taken)) (refused-answer _ (c .whole2 .ensures)) }
-
-slice-aggregate-open-book : tie.Need-slice-aggregate-open-book
-slice-aggregate-open-book c = search needs
-
-open-book-requires : tie.Need-open-book-requires
-open-book-requires c κs = search needs
-
-enum-known-r : tie.Need-enum-known-r
-enum-known-r c = search needs
-
-enum-known-m : tie.Need-enum-known-m
-enum-known-m c = search needs
 
 array-share-prefix-counts : tie.Need-array-share-prefix-counts
 array-share-prefix-counts c = let h = few-rules (c .before .before .before .before .open-book .ensures) (c .before .m .given .1) in search needs
@@ -49,27 +31,20 @@ list-certificate-requires c κs = (is-beside (c .before .before .before .before 
 returns-3 : tie.Need-returns-3
 returns-3 c = record { book-bytes = λ i. c .before .before .before .before .before .before .before .before .before .before .shared-slice-known .given i .fits; bytes = λ i. c .before .before .before .before .before .before .before .before .before .shared-slice-known2 .given i .fits; answers = answers-shut _ _ _ _ (certificate-read _ _ (c .before .before .before .before .before .before .before .if1 .left) (c .before .before .before .before .before .before .if2 .left) ∙ listing-bad _ _ (opening-shut _ _ (c .before .before .before .before .open-book .ensures .told) (c .before .r .given .1))) }
 
-same-length : tie.Need-same-length
-same-length c = search needs
-
 returns-4 : tie.Need-returns-4
 returns-4 c = record { book-bytes = λ i. c .before .before .before .before .before .before .before .before .before .before .before .before .before .before .before .shared-slice-known .given i .fits; bytes = λ i. c .before .before .before .before .before .before .before .before .before .before .before .before .before .before .shared-slice-known2 .given i .fits; answers = rw (certificate-read _ _ (c .before .before .before .before .before .before .before .before .before .before .before .before .if1 .left) (c .before .before .before .before .before .before .before .before .before .before .before .if2 .left)) (c .before .before .list-certificate .ensures) }
 
 pub read-certificate-spec : {M : Type 1} → statement M
 read-certificate-spec =
-    tie.close
-    (tie.spec
-    whole-requires
+    tie.close (tie.spec
+    (λ c κs. search needs)
     returns
-    whole-requires-2
+    (λ c κs. search needs)
     returns-2
-    slice-aggregate-open-book
-    open-book-requires
-    enum-known-r
-    enum-known-m
+    (λ c. search needs) (λ c κs. search needs) (λ c. search needs) (λ c. search needs)
     array-share-prefix-counts
     slice-aggregate-list-certificate
     list-certificate-requires
     returns-3
-    same-length
+    (λ c. search needs)
     returns-4)

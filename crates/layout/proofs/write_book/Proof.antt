@@ -15,65 +15,17 @@ use borrow.Author.Needs.{needs}
 use Rattle.layout.proofs.write_book.Statement.{statement}
 use Rattle.layout.proofs.write_book.Tie as tie
 
-slice-aggregate-book : tie.Need-slice-aggregate-book
-slice-aggregate-book c = search needs
-
-slice-aggregate-book-2 : tie.Need-slice-aggregate-book-2
-slice-aggregate-book-2 c = search needs
-
-slice-aggregate-book-3 : tie.Need-slice-aggregate-book-3
-slice-aggregate-book-3 c = search needs
-
-slice-aggregate-book-4 : tie.Need-slice-aggregate-book-4
-slice-aggregate-book-4 c = search needs
-
-book-requires : tie.Need-book-requires
-book-requires c κs = search needs
-
-opened-list-requires : tie.Need-opened-list-requires
-opened-list-requires c κs = search needs
-
-enum-known-r : tie.Need-enum-known-r
-enum-known-r c = search needs
-
-enum-known-k : tie.Need-enum-known-k
-enum-known-k c = search needs
-
-bytes-for-requires : tie.Need-bytes-for-requires
-bytes-for-requires c κs = search needs
-
-whole-requires : tie.Need-whole-requires
-whole-requires c κs = search needs
-
 returns : tie.Need-returns
 unfolding w-of writing-book
 returns c = let g = opening-good _ _ (list-told _ a-book ruleCount _ Book (c .before .before .before .before .before .before .before .before .before .before .book .ensures .0) (c .before .before .before .before .before .before .opened-list .ensures)) (c .before .before .before .before .k .given .1) in record { answers = packed-over book-place a-book _ g 16384 refl _ (omega (arith, c .before .if1 .taken, c .before .before .bytes-for .ensures)) (refused-answer _ (c .whole .ensures)) }
-
-whole-requires-2 : tie.Need-whole-requires-2
-whole-requires-2 c κs = search needs
 
 returns-2 : tie.Need-returns-2
 unfolding w-of writing-book
 returns-2 c = let g = opening-good _ _ (list-told _ a-book ruleCount _ Book (c .before .before .before .before .before .before .before .before .before .before .before .book .ensures .0) (c .before .before .before .before .before .before .before .opened-list .ensures)) (c .before .before .before .before .before .k .given .1) in record { answers = packed-short book-place a-book _ g 16384 refl _ (omega (arith, c .before .before .if1 .left, c .before .before .before .bytes-for .ensures)) (omega (arith, c .before .if2 .taken, c .before .before .before .bytes-for .ensures)) (refused-answer _ (c .whole2 .ensures)) }
 
-slice-aggregate-book-5 : tie.Need-slice-aggregate-book-5
-slice-aggregate-book-5 c = search needs
-
-slice-aggregate-book-6 : tie.Need-slice-aggregate-book-6
-slice-aggregate-book-6 c = search needs
-
-slice-aggregate-book-7 : tie.Need-slice-aggregate-book-7
-slice-aggregate-book-7 c = search needs
-
-book-requires-2 : tie.Need-book-requires-2
-book-requires-2 c κs = search needs
-
 returns-3 : tie.Need-returns-3
 unfolding w-of writing-book
 returns-3 c = record { answers = answers-shut _ _ _ _ (bad-written book-place 16384 _ (opening-shut _ _ (list-told _ a-book ruleCount _ Book (c .before .before .before .before .before .before .before .book .ensures .0) (c .before .before .before .opened-list .ensures)) (c .before .r .given .1))) }
-
-same-length : tie.Need-same-length
-same-length c = search needs
 
 returns-4 : tie.Need-returns-4
 unfolding w-of writing-book
@@ -81,25 +33,13 @@ returns-4 c = let g = opening-good _ _ (list-told _ a-book ruleCount _ Book (c .
 
 pub write-book-spec : {M : Type 1} → statement M
 write-book-spec =
-    tie.close
-    (tie.spec
-    slice-aggregate-book
-    slice-aggregate-book-2
-    slice-aggregate-book-3
-    slice-aggregate-book-4
-    book-requires
-    opened-list-requires
-    enum-known-r
-    enum-known-k
-    bytes-for-requires
-    whole-requires
+    tie.close (tie.spec
+    (λ c. search needs) (λ c. search needs) (λ c. search needs) (λ c. search needs) (λ c κs. search needs)
+    (λ c κs. search needs) (λ c. search needs) (λ c. search needs) (λ c κs. search needs) (λ c κs. search needs)
     returns
-    whole-requires-2
+    (λ c κs. search needs)
     returns-2
-    slice-aggregate-book-5
-    slice-aggregate-book-6
-    slice-aggregate-book-7
-    book-requires-2
+    (λ c. search needs) (λ c. search needs) (λ c. search needs) (λ c κs. search needs)
     returns-3
-    same-length
+    (λ c. search needs)
     returns-4)

@@ -11,24 +11,9 @@ use borrow.Author.Needs.{needs}
 use Rattle.layout.proofs.write_certificate.Statement.{statement}
 use Rattle.layout.proofs.write_certificate.Tie as tie
 
-whole-requires : tie.Need-whole-requires
-whole-requires c κs = search needs
-
 returns : tie.Need-returns
 unfolding w-of
 returns c = record { book-bytes = λ i. c .before .before .before .before .shared-slice-known .given i .fits; answers = answers-refusal _ _ _ _ (writing-book-long _ _ (c .before .if1 .taken)) (refused-answer _ (c .whole .ensures)) }
-
-slice-aggregate-open-book : tie.Need-slice-aggregate-open-book
-slice-aggregate-open-book c = search needs
-
-open-book-requires : tie.Need-open-book-requires
-open-book-requires c κs = search needs
-
-enum-known-r : tie.Need-enum-known-r
-enum-known-r c = search needs
-
-enum-known-m : tie.Need-enum-known-m
-enum-known-m c = search needs
 
 array-share-prefix-counts : tie.Need-array-share-prefix-counts
 array-share-prefix-counts c = let h = few-rules (c .before .before .before .before .open-book .ensures) (c .before .m .given .1) in search needs
@@ -42,25 +27,18 @@ pack-certificate-requires c κs = is-beside (c .before .before .before .before .
 returns-2 : tie.Need-returns-2
 returns-2 c = record { book-bytes = λ i. c .before .before .before .before .before .before .before .before .before .shared-slice-known .given i .fits; answers = answers-shut _ _ _ _ (certificate-written _ _ (c .before .before .before .before .before .before .if1 .left) ∙ writing-bad _ _ (opening-shut _ _ (c .before .before .before .before .open-book .ensures .told) (c .before .r .given .1))) }
 
-same-length : tie.Need-same-length
-same-length c = search needs
-
 returns-3 : tie.Need-returns-3
 returns-3 c = record { book-bytes = λ i. c .before .before .before .before .before .before .before .before .before .before .before .before .before .before .shared-slice-known .given i .fits; answers = rw (certificate-written _ _ (c .before .before .before .before .before .before .before .before .before .before .before .if1 .left)) (c .before .before .pack-certificate .ensures) }
 
 pub write-certificate-spec : {M : Type 1} → statement M
 write-certificate-spec =
-    tie.close
-    (tie.spec
-    whole-requires
+    tie.close (tie.spec
+    (λ c κs. search needs)
     returns
-    slice-aggregate-open-book
-    open-book-requires
-    enum-known-r
-    enum-known-m
+    (λ c. search needs) (λ c κs. search needs) (λ c. search needs) (λ c. search needs)
     array-share-prefix-counts
     slice-aggregate-pack-certificate
     pack-certificate-requires
     returns-2
-    same-length
+    (λ c. search needs)
     returns-3)

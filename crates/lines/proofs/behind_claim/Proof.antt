@@ -4,25 +4,16 @@ use borrow.Author.Needs.{needs}
 use Rattle.lines.proofs.behind_claim.Statement.{statement}
 use Rattle.lines.proofs.behind_claim.Tie as tie
 
-unfold-requires : tie.Need-unfold-requires
-unfold-requires c κs = search needs
-
-descent-requires : tie.Need-descent-requires
-descent-requires c κs = search needs
-
-same-length : tie.Need-same-length
-same-length c = search needs
-
 returns : tie.Need-returns
 returns c = kind-unfold (c .before .before .before .before .match .keys1) (c .before .before .«unfold» .ensures)
-
-same-length-2 : tie.Need-same-length-2
-same-length-2 c = search needs
 
 returns-2 : tie.Need-returns-2
 returns-2 c = kind-descent (c .before .before .before .before .match .rest .1) (c .before .before .descent .ensures)
 
 pub behind-claim-spec : {M : Type 1} → statement M
 behind-claim-spec =
-    tie.close
-    (tie.spec unfold-requires descent-requires same-length returns same-length-2 returns-2)
+    tie.close (tie.spec
+    (λ c κs. search needs) (λ c κs. search needs) (λ c. search needs)
+    returns
+    (λ c. search needs)
+    returns-2)

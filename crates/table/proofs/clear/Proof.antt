@@ -29,16 +29,12 @@ loop-less c = omega arith
 loop-again : tie.Need-loop-again Inv-loop μ-loop
 loop-again c = cleared-more (omega arith) (c .before .loop .inv)
 
-same-length : tie.Need-same-length Inv-loop μ-loop
-same-length c = search needs
-
 returns : tie.Need-returns Inv-loop μ-loop
 returns c = cleared-all (omega arith) (c .before .loop .inv)
 
 pub clear-spec : {M : Type 1} → statement M
 clear-spec =
-    tie.close
-    (tie.spec
+    tie.close (tie.spec
     Inv-loop
     μ-loop
     loop-holds
@@ -47,5 +43,5 @@ clear-spec =
     slice-write-w
     loop-less
     loop-again
-    same-length
+    (λ c. search needs)
     returns)

@@ -5,20 +5,11 @@ use native.Mathlib.Omega.{arith}
 use Rattle.table.proofs.push.Statement.{statement}
 use Rattle.table.proofs.push.Tie as tie
 
-enum-known-node : tie.Need-enum-known-node
-enum-known-node c = search needs
-
 cast-store : tie.Need-cast-store
 cast-store c = omega arith
 
 mul-store : tie.Need-mul-store
 mul-store c = omega arith
-
-store-requires : tie.Need-store-requires
-store-requires c κs = search needs
-
-enum-known-node-2 : tie.Need-enum-known-node-2
-enum-known-node-2 c = search needs
 
 cast-store-2 : tie.Need-cast-store-2
 cast-store-2 c = omega arith
@@ -29,51 +20,33 @@ mul-store-2 c = omega arith
 add-store : tie.Need-add-store
 add-store c = omega arith
 
-store-requires-2 : tie.Need-store-requires-2
-store-requires-2 c κs = search needs
-
-enum-known-node-3 : tie.Need-enum-known-node-3
-enum-known-node-3 c = search needs
-
 push-power-requires : tie.Need-push-power-requires
 push-power-requires c κs = (c .before .before .before .before .before .pre .0, power-fits _ _ _ _ _ _ (c .before .before .node3 .given .1) (c .before .before .before .before .before .pre .1))
-
-same-length : tie.Need-same-length
-same-length c = search needs
 
 returns : tie.Need-returns
 returns c = push-variable _ _ _ _ _ _ _ (c .before .before .before .before .before .node .given .1) (c .before .before .store .ensures)
 
-same-length-2 : tie.Need-same-length-2
-same-length-2 c = search needs
-
 returns-2 : tie.Need-returns-2
 returns-2 c = push-symbol _ _ _ _ _ _ _ (c .before .before .before .before .before .node2 .given .1) (c .before .before .store2 .ensures)
-
-same-length-3 : tie.Need-same-length-3
-same-length-3 c = search needs
 
 returns-3 : tie.Need-returns-3
 returns-3 c = push-raised _ _ _ _ _ _ _ _ _ (c .before .before .before .before .before .node3 .given .1) (c .before .before .push-power .ensures)
 
 pub push-spec : {M : Type 1} → statement M
 push-spec =
-    tie.close
-    (tie.spec
-    enum-known-node
+    tie.close (tie.spec
+    (λ c. search needs)
     cast-store
     mul-store
-    store-requires
-    enum-known-node-2
+    (λ c κs. search needs) (λ c. search needs)
     cast-store-2
     mul-store-2
     add-store
-    store-requires-2
-    enum-known-node-3
+    (λ c κs. search needs) (λ c. search needs)
     push-power-requires
-    same-length
+    (λ c. search needs)
     returns
-    same-length-2
+    (λ c. search needs)
     returns-2
-    same-length-3
+    (λ c. search needs)
     returns-3)

@@ -19,9 +19,6 @@ mul-code c = omega arith
 add-code : tie.Need-add-code
 add-code c = omega arith
 
-top-code-requires : tie.Need-top-code-requires
-top-code-requires c κs = search needs
-
 sub-at : tie.Need-sub-at
 sub-at c = top-some _ _ _ _ (sym (c .before .top-code .ensures) ∙ c .if2 .taken)
 
@@ -55,33 +52,20 @@ slice-read-more-b c = omega arith
 add-more-b-2 : tie.Need-add-more-b-2
 add-more-b-2 c = omega (arith, top-light _ _ _ _ (sym (c .before .before .before .top-code .ensures) ∙ c .before .before .if2 .taken))
 
-write-node-requires : tie.Need-write-node-requires
-write-node-requires c κs = search needs
-
-same-length : tie.Need-same-length
-same-length c = search needs
-
 returns-2 : tie.Need-returns-2
 returns-2 c = push-added _ _ _ _ _ _ _ (c .before .before .before .before .before .before .before .before .before .before .before .pre .0) (c .before .before .before .before .before .before .before .before .before .if1 .left) (sym (c .before .before .before .before .before .before .before .top-code .ensures) ∙ c .before .before .before .before .before .before .if2 .taken) (c .before .before .write-node .ensures)
-
-store-requires : tie.Need-store-requires
-store-requires c κs = search needs
-
-same-length-2 : tie.Need-same-length-2
-same-length-2 c = search needs
 
 returns-3 : tie.Need-returns-3
 returns-3 c = push-stored _ _ _ _ _ _ _ _ (c .before .before .before .before .before .before .before .if1 .left) (λ z. c .before .before .before .before .if2 .left (c .before .before .before .before .before .top-code .ensures ∙ z)) (c .before .before .store .ensures)
 
 pub push-power-spec : {M : Type 1} → statement M
 push-power-spec =
-    tie.close
-    (tie.spec
+    tie.close (tie.spec
     add-if1
     returns
     mul-code
     add-code
-    top-code-requires
+    (λ c κs. search needs)
     sub-at
     mul-at
     add-at
@@ -93,9 +77,7 @@ push-power-spec =
     mul-more-b
     slice-read-more-b
     add-more-b-2
-    write-node-requires
-    same-length
+    (λ c κs. search needs) (λ c. search needs)
     returns-2
-    store-requires
-    same-length-2
+    (λ c κs. search needs) (λ c. search needs)
     returns-3)

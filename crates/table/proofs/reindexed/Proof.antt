@@ -5,12 +5,6 @@ use borrow.Author.Needs.{needs}
 use Rattle.table.proofs.reindexed.Statement.{statement}
 use Rattle.table.proofs.reindexed.Tie as tie
 
-times-requires : tie.Need-times-requires
-times-requires c κs = search needs
-
-times-requires-2 : tie.Need-times-requires-2
-times-requires-2 c κs = search needs
-
 add-t9 : tie.Need-add-t9
 add-t9 c = omega arith
 
@@ -18,4 +12,8 @@ returns : tie.Need-returns
 returns c = reindexed-power _ _ _ _ _ _ _ (c .before .times .ensures .0) (c .times2 .ensures .0) (c .before .times .ensures .1) (c .times2 .ensures .1) (omega arith)
 
 pub reindexed-spec : {M : Type 1} → statement M
-reindexed-spec = tie.close (tie.spec times-requires times-requires-2 add-t9 returns)
+reindexed-spec =
+    tie.close (tie.spec
+    (λ c κs. search needs) (λ c κs. search needs)
+    add-t9
+    returns)

@@ -33,9 +33,6 @@ mul-alike-2 c = omega arith
 add-alike-2 : tie.Need-add-alike-2 Inv-loop μ-loop
 add-alike-2 c = omega arith
 
-alike-requires : tie.Need-alike-requires Inv-loop μ-loop
-alike-requires c κs = search needs
-
 returns-2 : tie.Need-returns-2 Inv-loop μ-loop
 returns-2 c = node-differs _ _ _ _ _ (c .before .before .before .before .if1 .left) _ (omega arith) (says-false _ (c .before .alike .ensures) (not-true _ (c .if2 .taken)))
 
@@ -56,8 +53,7 @@ returns-3 c = all-same _ _ _ _ _ (c .before .before .if1 .left) (λ i l. c .befo
 
 pub same-spec : {M : Type 1} → statement M
 same-spec =
-    tie.close
-    (tie.spec
+    tie.close (tie.spec
     Inv-loop
     μ-loop
     returns
@@ -66,7 +62,7 @@ same-spec =
     add-alike
     mul-alike-2
     add-alike-2
-    alike-requires
+    (λ c κs. search needs)
     returns-2
     add-k
     sub-left

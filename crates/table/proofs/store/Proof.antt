@@ -14,26 +14,19 @@ mul-write-node c = omega arith
 add-write-node : tie.Need-add-write-node
 add-write-node c = omega arith
 
-write-node-requires : tie.Need-write-node-requires
-write-node-requires c κs = search needs
-
 add-t11 : tie.Need-add-t11
 add-t11 c = omega arith
-
-same-length : tie.Need-same-length
-same-length c = search needs
 
 returns-2 : tie.Need-returns-2
 returns-2 c = store-one _ _ _ _ _ _ (c .before .before .before .before .before .before .pre) _ (c .before .before .before .before .if1 .left) (c .before .before .write-node .ensures)
 
 pub store-spec : {M : Type 1} → statement M
 store-spec =
-    tie.close
-    (tie.spec
+    tie.close (tie.spec
     returns
     mul-write-node
     add-write-node
-    write-node-requires
+    (λ c κs. search needs)
     add-t11
-    same-length
+    (λ c. search needs)
     returns-2)

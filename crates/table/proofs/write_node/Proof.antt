@@ -31,17 +31,13 @@ mul-w-3 c = omega arith
 slice-write-w-3 : tie.Need-slice-write-w-3
 slice-write-w-3 c = simp length-set (omega arith)
 
-same-length : tie.Need-same-length
-same-length c = search needs
-
 returns : tie.Need-returns
 unfolding withNode
 returns c = refl
 
 pub write-node-spec : {M : Type 1} → statement M
 write-node-spec =
-    tie.close
-    (tie.spec
+    tie.close (tie.spec
     mul-w
     slice-write-w
     add-w
@@ -50,5 +46,5 @@ write-node-spec =
     add-w-2
     mul-w-3
     slice-write-w-3
-    same-length
+    (λ c. search needs)
     returns)

@@ -4,9 +4,6 @@ use borrow.Author.Needs.{needs}
 use Rattle.unfolds.proofs.ending.Statement.{statement}
 use Rattle.unfolds.proofs.ending.Tie as tie
 
-enum-known-found : tie.Need-enum-known-found
-enum-known-found c = search needs
-
 enum-told : tie.Need-enum-told
 enum-told c = search needs
 
@@ -17,4 +14,9 @@ returns-2 : tie.Need-returns-2
 returns-2 c = ends-good (c .enum-told .given .1)
 
 pub ending-spec : {M : Type 1} → statement M
-ending-spec = tie.close (tie.spec enum-known-found enum-told returns returns-2)
+ending-spec =
+    tie.close (tie.spec
+    (λ c. search needs)
+    enum-told
+    returns
+    returns-2)

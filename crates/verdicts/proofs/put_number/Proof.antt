@@ -14,9 +14,6 @@ Inv-loop out₀ at n end k₀ m₀ out k m = DigitsPut out₀ at n out k m
 abbrev μ-loop : tie.MeasureT-loop
 μ-loop out₀ at n end k₀ m₀ out k m = m
 
-digits-requires : tie.Need-digits-requires Inv-loop μ-loop
-digits-requires c κs = search needs
-
 add-end : tie.Need-add-end Inv-loop μ-loop
 add-end c = omega (arith, c .digits .ensures .0, c .before .before .pre)
 
@@ -44,19 +41,15 @@ digit-requires-2 c κs = omega arith
 slice-write-out-2 : tie.Need-slice-write-out-2 Inv-loop μ-loop
 slice-write-out-2 c = omega (arith, c .before .before .loop .inv .size, c .before .before .before .before .before .pre, length-some (c .before .before .before .before .before .args .n))
 
-same-length : tie.Need-same-length Inv-loop μ-loop
-same-length c = search needs
-
 returns : tie.Need-returns Inv-loop μ-loop
 returns c = (ap (λ (l : ℕ). c .before .before .before .before .before .args .at + l) (c .before .before .before .digits .ensures .0), digits-put-all (c .before .before .before .before .before .pre) (omega arith) (c .digit2 .ensures) (c .before .before .loop .inv))
 
 pub put-number-spec : {M : Type 1} → statement M
 put-number-spec =
-    tie.close
-    (tie.spec
+    tie.close (tie.spec
     Inv-loop
     μ-loop
-    digits-requires
+    (λ c κs. search needs)
     add-end
     loop-holds
     sub-k
@@ -66,5 +59,5 @@ put-number-spec =
     loop-again
     digit-requires-2
     slice-write-out-2
-    same-length
+    (λ c. search needs)
     returns)

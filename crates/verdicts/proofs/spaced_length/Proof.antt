@@ -22,9 +22,6 @@ mul-digits c = omega arith
 shared-slice-read-digits : tie.Need-shared-slice-read-digits Inv-loop μ-loop
 shared-slice-read-digits c = omega arith
 
-digits-requires : tie.Need-digits-requires Inv-loop μ-loop
-digits-requires c κs = search needs
-
 add-sum : tie.Need-add-sum Inv-loop μ-loop
 add-sum c = omega (arith, c .digits .ensures .1)
 
@@ -45,14 +42,13 @@ returns c = (summed-all (omega arith) (c .before .loop .inv), omega (arith, c .b
 
 pub spaced-length-spec : {M : Type 1} → statement M
 spaced-length-spec =
-    tie.close
-    (tie.spec
+    tie.close (tie.spec
     Inv-loop
     μ-loop
     loop-holds
     mul-digits
     shared-slice-read-digits
-    digits-requires
+    (λ c κs. search needs)
     add-sum
     add-sum-2
     add-i

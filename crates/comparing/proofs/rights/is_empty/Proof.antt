@@ -4,11 +4,11 @@ use borrow.Author.Needs.{needs}
 use Rattle.comparing.proofs.rights.is_empty.Statement.{statement}
 use Rattle.comparing.proofs.rights.is_empty.Tie as tie
 
-field-requires : tie.Need-field-requires
-field-requires c κs = search needs
-
 returns : tie.Need-returns
 returns c = empty-right (c .before .field .ensures)
 
 pub is-empty-spec : {M : Type 1} → statement M
-is-empty-spec = tie.close (tie.spec field-requires returns)
+is-empty-spec =
+    tie.close (tie.spec
+    (λ c κs. search needs)
+    returns)

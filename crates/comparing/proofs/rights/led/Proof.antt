@@ -7,18 +7,6 @@ use Rattle.comparing.proofs.rights.led.Tie as tie
 enum-told : tie.Need-enum-told
 enum-told c = search needs
 
-spent-requires : tie.Need-spent-requires
-spent-requires c κs = search needs
-
-enum-told-2 : tie.Need-enum-told-2
-enum-told-2 c = search needs
-
-present-requires : tie.Need-present-requires
-present-requires c κs = search needs
-
-enum-told-3 : tie.Need-enum-told-3
-enum-told-3 c = search needs
-
 returns : tie.Need-returns
 returns c = led-by (c .before .enum-told .given .1) (c .spent .ensures)
 
@@ -30,13 +18,9 @@ returns-3 c = led-by (c .enum-told3 .given .1) led-nothing
 
 pub led-spec : {M : Type 1} → statement M
 led-spec =
-    tie.close
-    (tie.spec
+    tie.close (tie.spec
     enum-told
-    spent-requires
-    enum-told-2
-    present-requires
-    enum-told-3
+    (λ c κs. search needs) (λ c. search needs) (λ c κs. search needs) (λ c. search needs)
     returns
     returns-2
     returns-3)

@@ -4,14 +4,8 @@ use borrow.Author.Needs.{needs}
 use Rattle.comparing.proofs.rights.level.Statement.{statement}
 use Rattle.comparing.proofs.rights.level.Tie as tie
 
-field-requires : tie.Need-field-requires
-field-requires c κs = search needs
-
 returns : tie.Need-returns
 returns c = level-none (c .before .before .field .ensures) (c .if1 .taken)
-
-level-requires : tie.Need-level-requires
-level-requires c κs = search needs
 
 returns-2 : tie.Need-returns-2
 returns-2 c = level-yes (c .before .before .before .before .field .ensures) (c .before .before .if1 .left) (c .before .level .ensures) (c .if2 .taken)
@@ -20,4 +14,10 @@ returns-3 : tie.Need-returns-3
 returns-3 c = level-no (c .before .before .before .before .field .ensures) (c .before .before .if1 .left) (c .before .level .ensures) (c .if2 .left)
 
 pub level-spec : {M : Type 1} → statement M
-level-spec = tie.close (tie.spec field-requires returns level-requires returns-2 returns-3)
+level-spec =
+    tie.close (tie.spec
+    (λ c κs. search needs)
+    returns
+    (λ c κs. search needs)
+    returns-2
+    returns-3)

@@ -4,9 +4,6 @@ use borrow.Author.Needs.{needs}
 use Rattle.comparing.proofs.rights.present.Statement.{statement}
 use Rattle.comparing.proofs.rights.present.Tie as tie
 
-is-empty-requires : tie.Need-is-empty-requires
-is-empty-requires c κs = search needs
-
 returns : tie.Need-returns
 returns c = present-unmet (c .before .is-empty .ensures) (c .if1 .taken)
 
@@ -14,4 +11,8 @@ returns-2 : tie.Need-returns-2
 returns-2 c = present-met (c .before .is-empty .ensures) (c .if1 .left)
 
 pub present-spec : {M : Type 1} → statement M
-present-spec = tie.close (tie.spec is-empty-requires returns returns-2)
+present-spec =
+    tie.close (tie.spec
+    (λ c κs. search needs)
+    returns
+    returns-2)

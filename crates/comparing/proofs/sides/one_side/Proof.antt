@@ -7,48 +7,22 @@ use Rattle.comparing.proofs.sides.one_side.Tie as tie
 enum-told : tie.Need-enum-told
 enum-told c = search needs
 
-enum-known-a : tie.Need-enum-known-a
-enum-known-a c = search needs
-
-build-requires : tie.Need-build-requires
-build-requires c κs = search needs
-
-enum-known-a-2 : tie.Need-enum-known-a-2
-enum-known-a-2 c = search needs
-
-table-of-requires : tie.Need-table-of-requires
-table-of-requires c κs = search needs
-
-build-requires-2 : tie.Need-build-requires-2
-build-requires-2 c κs = search needs
-
 returns : tie.Need-returns
 returns c = sided-as (c .enum-told .given .1) (sided-empty _ _ _ _)
 
-same-length : tie.Need-same-length
-same-length c = search needs
-
 returns-2 : tie.Need-returns-2
 returns-2 c = sided-as (c .before .before .before .before .before .a .given .1) (sided-call (c .before .before .build .ensures))
-
-same-length-2 : tie.Need-same-length-2
-same-length-2 c = search needs
 
 returns-3 : tie.Need-returns-3
 returns-3 c = sided-as (c .before .before .before .before .before .before .a2 .given .1) (sided-claimed _ _ _ (c .before .before .before .table-of .ensures .0) (c .before .before .build2 .ensures))
 
 pub one-side-spec : {M : Type 1} → statement M
 one-side-spec =
-    tie.close
-    (tie.spec
+    tie.close (tie.spec
     enum-told
-    enum-known-a
-    build-requires
-    enum-known-a-2
-    table-of-requires
-    build-requires-2
+    (λ c. search needs) (λ c κs. search needs) (λ c. search needs) (λ c κs. search needs) (λ c κs. search needs)
     returns
-    same-length
+    (λ c. search needs)
     returns-2
-    same-length-2
+    (λ c. search needs)
     returns-3)

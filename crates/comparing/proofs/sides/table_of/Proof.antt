@@ -8,9 +8,6 @@ use Rattle.comparing.proofs.sides.table_of.Tie as tie
 enum-told : tie.Need-enum-told
 enum-told c = search needs
 
-enum-told-2 : tie.Need-enum-told-2
-enum-told-2 c = search needs
-
 returns : tie.Need-returns
 unfolding table-of
 returns c = (simp (c .enum-told .given .1), omega arith)
@@ -20,4 +17,9 @@ unfolding table-of
 returns-2 c = (simp (c .enum-told2 .given .1), omega arith)
 
 pub table-of-spec : {M : Type 1} → statement M
-table-of-spec = tie.close (tie.spec enum-told enum-told-2 returns returns-2)
+table-of-spec =
+    tie.close (tie.spec
+    enum-told
+    (λ c. search needs)
+    returns
+    returns-2)

@@ -33,16 +33,12 @@ loop-less c = omega arith
 loop-again : tie.Need-loop-again Inv-loop μ-loop
 loop-again c = forgot-more (c .before .before .pre) (omega arith) (c .before .loop .inv)
 
-same-length : tie.Need-same-length Inv-loop μ-loop
-same-length c = search needs
-
 returns : tie.Need-returns Inv-loop μ-loop
 returns c = forgot-all (omega arith) (c .before .loop .inv)
 
 pub forget-spec : {M : Type 1} → statement M
 forget-spec =
-    tie.close
-    (tie.spec
+    tie.close (tie.spec
     Inv-loop
     μ-loop
     loop-holds
@@ -52,5 +48,5 @@ forget-spec =
     add-x
     loop-less
     loop-again
-    same-length
+    (λ c. search needs)
     returns)

@@ -4,26 +4,11 @@ use borrow.Author.Needs.{needs}
 use Rattle.instances.proofs.nodes.header_at.Statement.{statement}
 use Rattle.instances.proofs.nodes.header_at.Tie as tie
 
-take-requires : tie.Need-take-requires
-take-requires c κs = search needs
-
-enum-known-tag : tie.Need-enum-known-tag
-enum-known-tag c = search needs
-
 enum-told : tie.Need-enum-told
 enum-told c = search needs
 
 returns : tie.Need-returns
 returns c = header-past _ _ _ _ (c .before .before .take .ensures) (c .enum-told .given .1)
-
-variable-requires : tie.Need-variable-requires
-variable-requires c κs = search needs
-
-symbol-requires : tie.Need-symbol-requires
-symbol-requires c κs = search needs
-
-power-requires : tie.Need-power-requires
-power-requires c κs = search needs
 
 returns-2 : tie.Need-returns-2
 returns-2 c = header-variable _ _ _ _ _ _ (c .before .before .before .before .before .take .ensures) (c .before .before .before .tag .given .1) _ (c .before .match2 .keys1) (c .variable .ensures)
@@ -39,15 +24,11 @@ returns-5 c = header-missing _ _ _ _ _ _ (c .before .before .before .before .tak
 
 pub header-at-spec : {M : Type 1} → statement M
 header-at-spec =
-    tie.close
-    (tie.spec
-    take-requires
-    enum-known-tag
+    tie.close (tie.spec
+    (λ c κs. search needs) (λ c. search needs)
     enum-told
     returns
-    variable-requires
-    symbol-requires
-    power-requires
+    (λ c κs. search needs) (λ c κs. search needs) (λ c κs. search needs)
     returns-2
     returns-3
     returns-4

@@ -4,38 +4,14 @@ use borrow.Author.Needs.{needs}
 use Rattle.instances.proofs.nodes.power.Statement.{statement}
 use Rattle.instances.proofs.nodes.power.Tie as tie
 
-take-requires : tie.Need-take-requires
-take-requires c κs = search needs
-
-enum-known-f : tie.Need-enum-known-f
-enum-known-f c = search needs
-
 enum-told : tie.Need-enum-told
 enum-told c = search needs
 
 returns : tie.Need-returns
 returns c = power-past _ _ _ (c .before .before .take .ensures) (c .enum-told .given .1)
 
-take-requires-2 : tie.Need-take-requires-2
-take-requires-2 c κs = search needs
-
-enum-known-a : tie.Need-enum-known-a
-enum-known-a c = search needs
-
-enum-told-2 : tie.Need-enum-told-2
-enum-told-2 c = search needs
-
 returns-2 : tie.Need-returns-2
 returns-2 c = power-past-a _ _ _ _ _ _ (c .before .before .before .before .before .before .take .ensures) (c .before .before .before .before .f .given .1) (c .before .before .take2 .ensures) (c .enum-told2 .given .1)
-
-take-requires-3 : tie.Need-take-requires-3
-take-requires-3 c κs = search needs
-
-enum-known-b : tie.Need-enum-known-b
-enum-known-b c = search needs
-
-enum-told-3 : tie.Need-enum-told-3
-enum-told-3 c = search needs
 
 returns-3 : tie.Need-returns-3
 returns-3 c = power-past-b _ _ _ _ _ _ (c .before .before .before .before .before .before .before .before .before .before .take .ensures) (c .before .before .before .before .before .before .before .before .f .given .1) _ _ _ (c .before .before .before .before .before .before .take2 .ensures) (c .before .before .before .before .a .given .1) (c .before .before .take3 .ensures) (c .enum-told3 .given .1)
@@ -45,18 +21,12 @@ returns-4 c = power-got _ _ _ _ _ _ (c .before .before .before .before .before .
 
 pub power-spec : {M : Type 1} → statement M
 power-spec =
-    tie.close
-    (tie.spec
-    take-requires
-    enum-known-f
+    tie.close (tie.spec
+    (λ c κs. search needs) (λ c. search needs)
     enum-told
     returns
-    take-requires-2
-    enum-known-a
-    enum-told-2
+    (λ c κs. search needs) (λ c. search needs) (λ c. search needs)
     returns-2
-    take-requires-3
-    enum-known-b
-    enum-told-3
+    (λ c κs. search needs) (λ c. search needs) (λ c. search needs)
     returns-3
     returns-4)

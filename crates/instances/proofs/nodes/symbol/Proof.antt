@@ -4,18 +4,6 @@ use borrow.Author.Needs.{needs}
 use Rattle.instances.proofs.nodes.symbol.Statement.{statement}
 use Rattle.instances.proofs.nodes.symbol.Tie as tie
 
-take-requires : tie.Need-take-requires
-take-requires c κs = search needs
-
-enum-known-f : tie.Need-enum-known-f
-enum-known-f c = search needs
-
-slice-aggregate-arity : tie.Need-slice-aggregate-arity
-slice-aggregate-arity c = search needs
-
-arity-requires : tie.Need-arity-requires
-arity-requires c κs = search needs
-
 enum-told : tie.Need-enum-told
 enum-told c = search needs
 
@@ -27,12 +15,8 @@ returns-2 c = symbol-past _ _ _ _ (c .before .before .take .ensures) (c .enum-to
 
 pub symbol-spec : {M : Type 1} → statement M
 symbol-spec =
-    tie.close
-    (tie.spec
-    take-requires
-    enum-known-f
-    slice-aggregate-arity
-    arity-requires
+    tie.close (tie.spec
+    (λ c κs. search needs) (λ c. search needs) (λ c. search needs) (λ c κs. search needs)
     enum-told
     returns
     returns-2)

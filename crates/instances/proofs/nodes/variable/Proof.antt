@@ -4,12 +4,6 @@ use borrow.Author.Needs.{needs}
 use Rattle.instances.proofs.nodes.variable.Statement.{statement}
 use Rattle.instances.proofs.nodes.variable.Tie as tie
 
-take-requires : tie.Need-take-requires
-take-requires c κs = search needs
-
-enum-known-x : tie.Need-enum-known-x
-enum-known-x c = search needs
-
 enum-told : tie.Need-enum-told
 enum-told c = search needs
 
@@ -20,4 +14,9 @@ returns-2 : tie.Need-returns-2
 returns-2 c = variable-past _ _ _ (c .before .before .take .ensures) (c .enum-told .given .1)
 
 pub variable-spec : {M : Type 1} → statement M
-variable-spec = tie.close (tie.spec take-requires enum-known-x enum-told returns returns-2)
+variable-spec =
+    tie.close (tie.spec
+    (λ c κs. search needs) (λ c. search needs)
+    enum-told
+    returns
+    returns-2)
