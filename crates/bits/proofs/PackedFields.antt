@@ -4,13 +4,11 @@ use mathlib.Core.List.{List, [], _∷_, _++_, append-assoc}
 use Prim.Native.Nat.{ℕ, suc, _+_, _-_, _*_, _/_, _%_, _^_, _≤_, _<_}
 use native.Mathlib.Nat.{mod-eq-of-lt}
 use native.Mathlib.Omega.{arith}
-use lib.ListN.{length, getD, length-append, List·getD-append, List·getD-eq-default}
+use lib.ListN.{length, getD, List·getD-append, List·getD-eq-default}
 use lib.Seq.{getD-append-add}
-use Rattle.bits.specs.Bits.{Bytes, bitAt, bitsAt, readField}
-use Rattle.bits.specs.declared.Taken.the-variants.{Got}
+use Rattle.bits.specs.Bits.{Bytes, bitAt, bitsAt}
 use Rattle.bits.specs.Packed.{bitsOf, fieldBits, width, bytesFor, packed, Reads, Sized}
 use Rattle.bits.proofs.Bytes.{bits-of, bits-zero, bit-append}
-use Rattle.bits.proofs.Fitting.{read-yes}
 use Rattle.bits.proofs.Groups.{length-bitsOf, at-bitsOf, length-bytesOf, bytesOf-bytes, bytesOf-bit, length-fieldBits, binary-fieldBits, fieldBits-append, width-append}
 
 -- ---- how long the file is, and what its bytes and bits are
@@ -51,10 +49,6 @@ within : (before after : List (ℕ × ℕ)) (f : ℕ × ℕ) (j : ℕ) → j < f
 unfolding width
 within before after f j h = omega (arith, length-packed (before ++ f ∷ after), width-append before (f ∷ after))
 
-ends : (before after : List (ℕ × ℕ)) (f : ℕ × ℕ) (rest : List ℕ) → width before + f .0 ≤ 8 * length (packed (before ++ f ∷ after) ++ rest)
-unfolding width
-ends before after f rest = omega (arith, length-append (packed (before ++ f ∷ after)) rest, length-packed (before ++ f ∷ after), width-append before (f ∷ after))
-
 -- a field reads back from the packed bytes, whatever follows them
 pub reads-back : (before after : List (ℕ × ℕ)) (f : ℕ × ℕ) (rest : List ℕ) → f .1 < 2 ^ f .0
     → bitsAt (packed (before ++ f ∷ after) ++ rest) (width before) (f .0) ≡ f .1
@@ -82,10 +76,3 @@ all-read-back before (f ∷ fs) rest small = (
 pub packed-reads : (fs : List (ℕ × ℕ)) (rest : List ℕ) → Sized fs → Reads (packed fs ++ rest) 0 fs
 unfolding width
 packed-reads fs rest small = all-read-back [] fs rest small
-
--- as `take` answers it
-pub read-next : (before after : List (ℕ × ℕ)) (f : ℕ × ℕ) (rest : List ℕ) → f .1 < 2 ^ f .0 → f .0 ≤ 16 → width before + f .0 ≤ 2 ^ 32
-    → readField (packed (before ++ f ∷ after) ++ rest) (f .0) (width before) ≡ Got (f .1) (record { at = width before + f .0 })
-read-next before after f rest small narrow near =
-    read-yes (packed (before ++ f ∷ after) ++ rest) (f .0) (width before) narrow (omega (arith, ends before after f rest))
-    ∙ ap (λ (v : ℕ). Got v (record { at = width before + f .0 })) (reads-back before after f rest small)

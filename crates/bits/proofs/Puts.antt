@@ -2,18 +2,16 @@
 use mathlib.Core.Path.{_≡_, sym, ap, _∙_}
 use mathlib.Core.List.{List, [], _∷_, _++_}
 use mathlib.Core.Logic.{⊎-elim}
-use mathlib.Core.Bool.{Bool, cond}
-use Prim.Native.Nat.{ℕ, zero, suc, _+_, _-_, _*_, _%_, _^_, _≤_, _<_}
+use Prim.Native.Nat.{ℕ, zero, suc, _+_, _-_, _*_, _≤_, _<_}
 use native.Mathlib.Omega.{arith}
 use lib.ListN.{length, getD, take, drop, length-append, length-drop, List·getD-append, List·getD-eq-default}
 use lib.Seq.{getD-append-add, getD-take, getD-drop, length-take-le}
-use Rattle.bits.specs.Bits.{Bytes, bitAt, bitsAt, roomOf}
+use Rattle.bits.specs.Bits.{Bytes, bitAt}
 use Rattle.bits.specs.Packed.{bitsOf, bytesFor, bytesOf}
-use Rattle.bits.specs.Put.{bitsIn, putBits, putField, Puts}
+use Rattle.bits.specs.Put.{bitsIn, putBits, Puts}
 use Rattle.bits.proofs.Numbers.{lt-or-ge}
-use Rattle.bits.proofs.Bytes.{bits-of, bit-append, bit-append-add, bit-drop, bit-lt, same-bits}
+use Rattle.bits.proofs.Bytes.{bit-append, bit-append-add, bit-drop, bit-lt, same-bits}
 use Rattle.bits.proofs.Groups.{Binary, binary-append, binary-take, binary-bitsOf, length-bitsOf, at-bitsOf, at-bitsIn, length-bitsIn, length-bytesOf, bytesOf-bytes, bytesOf-bit}
-use Rattle.bits.proofs.Fitting.{fits-yes}
 
 -- ---- what each bit is
 
@@ -84,11 +82,3 @@ puts-only s at w v t u p q = same-bits t u (p .long ∙ sym (q .long)) (p .small
         (lt-or-ge i at)
 
 -- ---- what no put changes
-
--- ---- a field that was put is read back
-
-pub put-reads : (s : List ℕ) (w v at : ℕ) → Bytes s → w ≤ 16 → at + w ≤ roomOf s → bitsAt (putField s w v at) at w ≡ v % 2 ^ w
-unfolding putField
-put-reads s w v at small narrow room =
-    ap (λ (b : Bool). bitsAt (cond b (putBits s at w v) s) at w) (fits-yes s w at narrow room)
-    ∙ bits-of (putBits s at w v) at w v (put-puts s at w v (omega arith) small .there)

@@ -10,7 +10,7 @@ use Rattle.instances.specs.Walks.{walked}
 use Rattle.instances.specs.declared.Header.{Header}
 use Rattle.instances.specs.declared.Header.the-variants.{Variable, Symbol, Power, Missing}
 
--- the word that the filling's table has for a node: 0, unless it is a variable that is listed
+-- the word of a filling for a node: 0, unless it is a variable that is listed
 unfoldable pub wordOf : List ℕ → ℕ → Header → ℕ
 wordOf w fills (Variable x c) = entry w fills x
 wordOf w fills (Symbol f n c) = 0

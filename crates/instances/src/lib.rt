@@ -206,7 +206,7 @@ fn spell(book: &[u8], s: &[u8], w: &mut [u64], base: usize, count: usize, at: us
     }
 }
 
-// What the filling's table at `fills` has for a node: 0, or one more than the place of its term.
+// The word at `fills` for a node: 0, or one more than the place of its term.
 fn word_of(w: &[u64], fills: usize, header: Header) -> u64
     requires { ⌜ fills + 64 ≤ length (now w) ⌝ }
     ensures { λ r. ⌜ r ≡ wordOf (now (w .entry)) fills header ⌝ }

@@ -14,8 +14,7 @@ use table::USED;
 ghost use mathlib.Core.Path.{_≡_};
 ghost use Prim.Native.Nat.{_+_, _≤_, _<_};
 ghost use lib.ListN.{length};
-ghost use Rattle.answers.specs.Carried.{carried};
-ghost use Rattle.answers.specs.Numbers.{w-of, paper-verdict};
+ghost use Rattle.answers.specs.Numbers.{paper-verdict};
 ghost use Rattle.patterns.specs.Judge.{accept};
 ghost use Rattle.table.specs.Places.{WORDS, ROWS};
 ghost use Rattle.lines.specs.Certificates.{pace-of, NotesLine, KindAt, LineAt, ClosingFound, ClosingBy, ClosingAt, LinesAt, Prepares, JudgesLines};
@@ -177,7 +176,7 @@ fn lines(book: &[u8], certificate: &[u8], w: &mut [u64], at: usize, k: usize, n:
     closing(book, certificate, w, next)
 }
 
-// The table made ready: no filling in the first filling table, and the begins of the rules.
+// The table made ready: no filling in the words that stay empty, and the begins of the rules.
 fn prepare(book: &[u8], w: &mut [u64])
     requires { ⌜ WORDS ≤ length (now w) ⌝ }
     ensures { λ _. ⌜ Prepares (now (book .entry)) (now (w .entry)) (now (w .exit)) ⌝ }

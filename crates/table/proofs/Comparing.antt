@@ -25,14 +25,6 @@ unfolding Says
 says-false true h e = let z : _≡_ {A = ℕ} 0 1 = cc in absurd (omega arith)
 says-false false h e = h
 
--- no second answer fits
-pub says-one : (A : Type 0) (r s : Bool) → Says A r → Says A s → r ≡ s
-unfolding Says
-says-one A true true p q = refl
-says-one A true false p q = absurd (q p)
-says-one A false true p q = absurd (p q)
-says-one A false false p q = refl
-
 -- ---- two nodes
 
 module _ (w : List ℕ) (p q : ℕ) where

@@ -1,5 +1,5 @@
 -- No number wraps: pushing adds up exactly what is pushed, and no word of a power is above the sum.
-use Prim.Native.Nat.{ℕ, zero, suc, _+_, _*_, _-_, _≤_, _<_}
+use Prim.Native.Nat.{ℕ, zero, suc, _+_, _*_, _-_, _≤_}
 use mathlib.Core.Path.{_≡_, refl, ap}
 use mathlib.Core.Logic.{ite}
 use mathlib.Core.List.{List, [], _∷_, _++_}
@@ -65,13 +65,6 @@ pub load-pushes : (ns ms : List (Node Exp)) → load (pushes exponents ns ms) �
 unfolding pushes
 load-pushes ns [] = omega (arith, load-none)
 load-pushes ns (m ∷ ms) = omega (arith, load-pushes (push exponents ns m) ms, load-push ns m, load-cons m ns, load-cons m ms)
-
--- of a walk that is under way: if all that it pushes fits, then so does the next node
-pub next-fits : (ns : List (Node Exp)) (m : Node Exp) (ks whole : List (Node Exp)) (bound : ℕ)
-    → pushes exponents ns (m ∷ ks) ≡ pushes exponents [] whole → load whole < bound → load (m ∷ ns) < bound
-next-fits ns m ks whole bound e h =
-    let all : load (pushes exponents ns (m ∷ ks)) ≡ load (pushes exponents [] whole) = ap load e in
-    omega (arith, load-none, load-pushes ns (m ∷ ks), load-pushes [] whole, load-cons m ns, load-cons m ks)
 
 -- ---- the words of the power on top
 

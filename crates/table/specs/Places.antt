@@ -1,4 +1,4 @@
--- The places of the work table. The three lists of begins, the three filling tables and the two sides lie in this order, so that what lives
+-- The places of the work table. The three lists of begins, the words of three fillings and the two sides lie in this order, so that what lives
 -- longest lies lowest.
 use Prim.Native.Nat.{ℕ}
 

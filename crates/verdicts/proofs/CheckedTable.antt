@@ -16,7 +16,6 @@ use Rattle.patterns.specs.First.{Exp, Pair, Pace, one}
 use Rattle.patterns.proofs.Every.{below-listed, every-rest, every-append, every-weaken, every-map}
 use Rattle.grammar.specs.Books.{RuleBook}
 use Rattle.grammar.specs.Limits.{BookFits, call-counts, LinesFit, CertificateFits}
-use Rattle.verdicts.specs.Demands.{BookFile, CertificateFile}
 use Rattle.answers.specs.InTable.{Allows, Among, file-rows, unfold-rows, descent-rows, closing-rows, line-rows, InTable}
 use Rattle.answers.proofs.InTable.{among-first, among-rest}
 use Rattle.verdicts.proofs.CheckedLines.{Named, named-is-there, Fine, row-at, fine-alone, fine-compare, fine-given, line-checks-fine}
@@ -105,15 +104,3 @@ module _ (b : RuleBook) (book : BookFits b) where
         let all = subst (Every (λ p. InTable (reason one p))) (f .whole) checks-in-table in
         let rest = every-rest (λ p. InTable (reason one p)) (f .before) (f .broken ∷ f .after) all in
         subst⁻¹ InTable (f .told) (rest .0)
-
--- ---- the same of files that were read
-
-module _ (book certificate : List ℕ) (b : RuleBook) (f : BookFile book b) (K : Certificate Exp Pair Pace)
-    (g : CertificateFile b certificate K) where
-  -- The check that is never met, `missing`, is never reached.
-  pub file-names-what-is-there : Every (λ p. p .check .demand ≢ missing) (checks one (b .rules) K)
-  file-names-what-is-there = nothing-missing b (f .limits) K (g .limits)
-
-  -- The refusals 9 to 16 are in 01's table.
-  pub broken-check-in-table : (r : Reason) → FirstBroken one (b .rules) K r → InTable r
-  broken-check-in-table = broken-in-table b (f .limits) K (g .limits)

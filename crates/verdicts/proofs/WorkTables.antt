@@ -139,12 +139,6 @@ module _ (v : Ruling Pace) (never : v ≢ refusal-one) where
 -- ---- the judge of two files
 
 module _ (book certificate : List ℕ) where
-  -- Refusal 1 is given exactly when the work table has fewer than 8,192 numbers.
-  pub refusal-one-exactly-when : (size : ℕ)
-      → (judging book certificate size ≡ refusal-one) ↔ (size < WORDS)
-  unfolding judging
-  refusal-one-exactly-when size = one-exactly-when _ (files-never-one book certificate) size
-
   -- The work table is not touched by refusal 1,
   pub work-kept : (work : List ℕ) → judging book certificate (length work) ≡ refusal-one
       → work-after work ≡ work
@@ -160,11 +154,6 @@ module _ (book certificate : List ℕ) where
 -- ---- the judge of an input
 
 module _ (input : List ℕ) where
-  pub input-refusal-one-exactly-when : (size : ℕ)
-      → (judging-input input size ≡ refusal-one) ↔ (size < WORDS)
-  unfolding judging-input
-  input-refusal-one-exactly-when size = one-exactly-when _ (framed-never-one input) size
-
   pub input-work-kept : (work : List ℕ) → judging-input input (length work) ≡ refusal-one
       → work-after work ≡ work
   unfolding judging-input

@@ -18,7 +18,7 @@ pub fn pack_book_text(text: &str) -> Read<Vec<u8>> {
     packed(answer, out, BOOK, &reader)
 }
 
-/// Packs the text of a certificate over a packed rule book. Its symbol table must have
+/// Packs the text of a certificate over a packed rule book. Its symbol list must have
 /// the book's arities.
 pub fn pack_certificate_text(book: &[u8], text: &str) -> Read<Vec<u8>> {
     pack_certificate_named(book, None, text)

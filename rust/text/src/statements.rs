@@ -42,7 +42,7 @@ fn rule(reader: &mut Reader) -> Read<()> {
     reader.close_count(place, calls)
 }
 
-/// The field list of a certificate's text that may leave its symbol table out and mean
+/// The field list of a certificate's text that may leave its symbol list out and mean
 /// this one.
 pub fn certificate_fields_over(text: &str, symbols: &Symbols) -> Read<Reader> {
     let mut reader = Reader::new(text)?;

@@ -1,4 +1,4 @@
-//! The symbol table: `symbols gt/2, s/1, 0/0.` gives each symbol its number, in
+//! The symbol list: `symbols gt/2, s/1, 0/0.` gives each symbol its number, in
 //! order from 0, and its arity.
 
 use crate::reader::Reader;
@@ -65,7 +65,7 @@ impl Symbols {
     }
 }
 
-/// The symbol table at the head of any text, of a book or of a certificate.
+/// The symbol list at the head of any text, of a book or of a certificate.
 pub fn names_in(text: &str) -> Result<Symbols, TextError> {
     Ok(Reader::new(text)?.symbol_table()?.symbols)
 }

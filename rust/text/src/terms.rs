@@ -1,4 +1,4 @@
-//! The forms that books and certificates share: symbol table, term, filling.
+//! The forms that books and certificates share: symbol list, term, filling.
 
 use crate::kinds::Kind;
 use crate::reader::{Read, Reader};
@@ -8,7 +8,7 @@ use crate::TextError;
 /// Text nested deeper than this is not read; files hold at most 256 nodes.
 const DEEPEST: usize = 2_000;
 
-/// A symbol table, and the tokens of its names, of its arities and of its full stop.
+/// A symbol list, and the tokens of its names, of its arities and of its full stop.
 pub struct Table {
     pub symbols: Symbols,
     pub names: Vec<usize>,

@@ -10,7 +10,7 @@ fn book_error(text: &str) -> String {
     pack_book_text(text).unwrap_err().to_string()
 }
 
-/// Of a certificate that stands below its symbol table.
+/// Of a certificate that stands below its symbol list.
 fn certificate_error(text: &str) -> String {
     let book = pack_book_text(BOOK).unwrap();
     let text = format!("{SYMBOLS}\n{text}");
