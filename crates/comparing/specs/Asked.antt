@@ -1,4 +1,4 @@
--- What is asked at each part of each kind of line, and the checks that this comes to. 01, "What a certificate claims".
+-- What is asked at each part of an unfold, a descent and the closing, and the checks that this comes to. 01, "What a certificate claims".
 use Prim.Native.Nat.{ℕ}
 use mathlib.Core.List.{List, [], _∷_, _++_}
 use mathlib.Core.Bool.{cond}

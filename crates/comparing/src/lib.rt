@@ -1,4 +1,4 @@
-// Which check is made at each part of each kind of line, and the check: what is built for its sides, and what is asked of a right.
+// Which check is made at each part of an unfold, a descent and the closing, and the check: what is built for its sides, and what is asked of a right.
 mod rights;
 mod sides;
 
@@ -82,7 +82,7 @@ pub fn claimed_right(certificate: &[u8], at: usize, i: u16, j: u16, filled: Fill
     }
 }
 
-// The same, else a number; then two sides are equal, else another.
+// A use's right is as its place asks, else one number; then two sides are equal, else another.
 fn led_equal(
     book: &[u8],
     certificate: &[u8],

@@ -20,14 +20,14 @@ single (Symbol f n c) = nfun f ∷ []
 single (Power s a b c) = npow s (a, b) ∷ []
 single Missing = []
 
--- 01: "a node is followed at once by its arguments": the place behind a header, with so many terms still to come
+-- 01: "a node is followed at once by its arguments": where a walk stands behind a header, with so many terms still to come
 unfoldable pub next-stand : ℕ → Header → Stand
 next-stand pending (Variable x c) = record { at = c .at; pending = pending - 1 }
 next-stand pending (Symbol f n c) = record { at = c .at; pending = pending - 1 + n }
 next-stand pending (Power s a b c) = record { at = c .at; pending = pending }
 next-stand pending Missing = record { at = 0; pending = 0 }
 
--- q is that place, and its count of terms has grown by an arity at most
+-- q is where it stands, and the count of terms has grown by an arity at most
 pub record Next (pending : ℕ) (h : Header) (q : Stand) : Type 0 where
   pub is : q ≡ next-stand pending h
   pub few : q .pending ≤ pending + 65536
@@ -49,7 +49,7 @@ ahead ns v = record { met = ns ++ v .met; end = v .end }
 abbrev pub ended : Stand → Passage
 ended p = record { met = []; end = p .at }
 
--- the walk from a place on, over at most `left` nodes
+-- the walk from where it stands, over at most `left` nodes
 unfoldable pub walk : List ℕ → List ℕ → ℕ → Stand → Passage
 walk book s zero p = ended p
 walk book s (suc left) p =

@@ -56,9 +56,9 @@ struct Stand {
     pending: usize,
 }
 
-// A turn of a walk: the header that it meets, and the place behind that node; or the walk is over.
+// A turn of a walk: the header that it meets, and where it stands behind that node; or the walk is over.
 enum Turn {
-    Node { header: Header, place: Stand },
+    Node { header: Header, stand: Stand },
     Over,
 }
 
@@ -80,7 +80,7 @@ pub fn field(s: &[u8], w: usize, at: usize) -> Read
     }
 }
 
-// The place behind a node.
+// Where a walk stands behind a node.
 fn next(header: Header, pending: usize) -> Stand
     requires { ⌜ (1 ≤ pending) × (pending ≤ 2 ^ 32) ⌝ }
     ensures { λ r. ⌜ Next pending header r ⌝ }
@@ -116,8 +116,8 @@ fn step(book: &[u8], s: &[u8], p: Stand, left: usize) -> Turn
         return Turn::Over;
     }
     let header = header_at(book, s, p.at);
-    let place = next(header, pending);
-    Turn::Node { header, place }
+    let stand = next(header, pending);
+    Turn::Node { header, stand }
 }
 
 // Where the term at a bit ends.
@@ -127,10 +127,10 @@ pub fn skip(book: &[u8], s: &[u8], at: usize) -> usize
     let mut p = Stand { at, pending: 1 };
     let mut left: usize = 256;
     loop {
-        let Turn::Node { place, .. } = step(book, s, p, left) else {
+        let Turn::Node { stand, .. } = step(book, s, p, left) else {
             return p.at;
         };
-        p = place;
+        p = stand;
         left -= 1;
     }
 }
@@ -154,13 +154,13 @@ pub fn level(book: &[u8], s: &[u8], at: usize) -> bool
     let mut p = Stand { at, pending: 1 };
     let mut left: usize = 256;
     loop {
-        let Turn::Node { header, place } = step(book, s, p, left) else {
+        let Turn::Node { header, stand } = step(book, s, p, left) else {
             return true;
         };
         if !level_node(header) {
             return false;
         }
-        p = place;
+        p = stand;
         left -= 1;
     }
 }
@@ -194,14 +194,14 @@ fn spell(book: &[u8], s: &[u8], w: &mut [u64], base: usize, count: usize, at: us
     let mut p = Stand { at, pending: 1 };
     let mut left: usize = 256;
     loop {
-        let Turn::Node { header, place } = step(book, s, p, left) else {
+        let Turn::Node { header, stand } = step(book, s, p, left) else {
             return Pushed::Count(n);
         };
         let Pushed::Count(k) = push_node(w, base, n, header, 1, 0) else {
             return Pushed::NoRoom;
         };
         n = k;
-        p = place;
+        p = stand;
         left -= 1;
     }
 }
@@ -267,7 +267,7 @@ pub fn build(
     let mut p = Stand { at, pending: 1 };
     let mut left: usize = 256;
     loop {
-        let Turn::Node { header, place } = step(book, s, p, left) else {
+        let Turn::Node { header, stand } = step(book, s, p, left) else {
             return Side::Done { nodes, end: p.at };
         };
         let Pushed::Count(k) = push_filled(book, certificate, w, base, nodes, header, i, j, fills)
@@ -275,7 +275,7 @@ pub fn build(
             return Side::Full;
         };
         nodes = k;
-        p = place;
+        p = stand;
         left -= 1;
     }
 }

@@ -47,11 +47,11 @@ fn ends(s: &[u8], bit: usize) -> bool
 }
 
 // What a walk over a file's bytes comes to, once the end of the file is looked at.
-fn opened(s: &[u8], file: W, w: Walk) -> Opening
-    requires { ⌜ (length (now s) ≤ 32768) × (walked-bits w ≤ 8 * length (now s)) ⌝ }
-    ensures { λ r. ⌜ sight r ≡ seen-bytes (w-of file) (now (s .entry)) w ⌝ }
+fn opened(s: &[u8], file: W, walk: Walk) -> Opening
+    requires { ⌜ (length (now s) ≤ 32768) × (walked-bits walk ≤ 8 * length (now s)) ⌝ }
+    ensures { λ r. ⌜ sight r ≡ seen-bytes (w-of file) (now (s .entry)) walk ⌝ }
 {
-    match w {
+    match walk {
         Walk::No(m, c) => Opening::Shut(answers::carried(m, file, c.bit, 0)),
         Walk::On(v, c) => {
             let bit = c.bit;
@@ -68,10 +68,10 @@ fn opened(s: &[u8], file: W, w: Walk) -> Opening
 }
 
 // What a walk over a list of fields comes to, once the end of the list is looked at.
-fn opened_list(l: &[u16], file: W, w: Walk) -> Opening
-    ensures { λ r. ⌜ sight r ≡ seen-list (w-of file) (now (l .entry)) w ⌝ }
+fn opened_list(l: &[u16], file: W, walk: Walk) -> Opening
+    ensures { λ r. ⌜ sight r ≡ seen-list (w-of file) (now (l .entry)) walk ⌝ }
 {
-    match w {
+    match walk {
         Walk::No(m, c) => Opening::Shut(answers::carried(m, file, c.n, 0)),
         Walk::On(v, c) => {
             let n = c.n;

@@ -14,7 +14,9 @@ type Done = Result<Vec<u8>, Failure>;
 
 fn main() -> ExitCode {
     run_with(|words| match words {
-        ["judge", book, certificate] => judged(book, certificate),
+        ["judge", book, certificate] if !is_help(book) && !is_help(certificate) => {
+            judged(book, certificate)
+        }
         _ => Ok((told(words)?, DONE)),
     })
 }
@@ -32,14 +34,19 @@ fn judged(book: &str, certificate: &str) -> Outcome {
     }
 }
 
+fn is_help(word: &str) -> bool {
+    matches!(word, "--help" | "-h")
+}
+
 /// What the tool says of itself, or what a command makes.
 fn told(words: &[&str]) -> Done {
-    let is_help = |word: &&str| matches!(*word, "--help" | "-h");
     match words {
         ["help"] => Ok(help(None)?.into_bytes()),
         ["help", command] => Ok(help(Some(command))?.into_bytes()),
         [word] if is_help(word) => Ok(help(None)?.into_bytes()),
-        [command, rest @ ..] if rest.iter().any(is_help) => Ok(help(Some(command))?.into_bytes()),
+        [command, rest @ ..] if rest.iter().any(|word| is_help(word)) => {
+            Ok(help(Some(command))?.into_bytes())
+        }
         ["--version"] => Ok(format!("gearcinder-text {}\n", env!("CARGO_PKG_VERSION")).into()),
         _ => run(words),
     }

@@ -24,13 +24,13 @@ returns : tie.Need-returns Inv-loop μ-loop
 returns c = skipped _ _ _ _ _ (going-over (c .before .before .before .loop .inv) (c .before .before .step .ensures) (c .enum-told .given .1))
 
 sub-left : tie.Need-sub-left Inv-loop μ-loop
-sub-left c = going-left (c .before .before .before .before .loop .inv) (c .before .before .before .step .ensures) (c .before .place .given .1)
+sub-left c = going-left (c .before .before .before .before .loop .inv) (c .before .before .before .step .ensures) (c .before .stand .given .1)
 
 loop-less : tie.Need-loop-less Inv-loop μ-loop
-loop-less c = omega (arith, going-left (c .before .before .before .before .loop .inv) (c .before .before .before .step .ensures) (c .before .place .given .1))
+loop-less c = omega (arith, going-left (c .before .before .before .before .loop .inv) (c .before .before .before .step .ensures) (c .before .stand .given .1))
 
 loop-again : tie.Need-loop-again Inv-loop μ-loop
-loop-again c = going-on (c .before .before .before .before .loop .inv) (c .before .before .before .step .ensures) (c .before .place .given .1) tt
+loop-again c = going-on (c .before .before .before .before .loop .inv) (c .before .before .before .step .ensures) (c .before .stand .given .1) tt
 
 pub skip-spec : {M : Type 1} → statement M
 skip-spec =

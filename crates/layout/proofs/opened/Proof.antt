@@ -5,16 +5,16 @@ use Rattle.layout.proofs.opened.Statement.{statement}
 use Rattle.layout.proofs.opened.Tie as tie
 
 ends-requires : tie.Need-ends-requires
-ends-requires c κs = (c .before .before .before .before .pre .0, bits-on _ (c .before .w2 .given .1) (c .before .before .before .before .pre .1))
+ends-requires c κs = (c .before .before .before .before .pre .0, bits-on _ (c .before .walk2 .given .1) (c .before .before .before .before .pre .1))
 
 returns : tie.Need-returns
-returns c = bytes-good _ _ (c .before .before .before .w2 .given .1) (c .before .ends .ensures) (c .if1 .taken)
+returns c = bytes-good _ _ (c .before .before .before .walk2 .given .1) (c .before .ends .ensures) (c .if1 .taken)
 
 returns-2 : tie.Need-returns-2
-returns-2 c = bytes-no _ _ _ (c .before .before .w .given .1) (c .carried .ensures)
+returns-2 c = bytes-no _ _ _ (c .before .before .walk .given .1) (c .carried .ensures)
 
 returns-3 : tie.Need-returns-3
-returns-3 c = bytes-left _ _ _ (c .before .before .before .before .w2 .given .1) (c .before .before .ends .ensures) (c .before .if1 .left) (c .carried2 .ensures)
+returns-3 c = bytes-left _ _ _ (c .before .before .before .before .walk2 .given .1) (c .before .before .ends .ensures) (c .before .if1 .left) (c .carried2 .ensures)
 
 pub opened-spec : {M : Type 1} → statement M
 opened-spec =
