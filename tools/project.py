@@ -57,6 +57,13 @@ def read(path):
         stop(f"{path}: {error.strerror}")
 
 
+def arguments(text):
+    """(start, end) of each argument of `tie.spec`: a name, or something in brackets."""
+    at = text.index("tie.spec") + len("tie.spec")
+    for found in re.finditer(r"\s+(\((?:[^()]|\([^()]*\))*\)|[^\s()]+)", text[at:]):
+        yield at + found.start(1), at + found.end(1)
+
+
 def sources(folder="crates", endings=(".antt", ".rt")):
     """Every file of code below a folder, in order."""
     if not os.path.isdir(folder):

@@ -1,4 +1,5 @@
 // Reads a book and a certificate from standard input, judges them, and prints the verdict as one line.
+use libc::STDERR_FILENO;
 use libc::STDIN_FILENO;
 use libc::STDOUT_FILENO;
 use table::WORDS;
@@ -19,11 +20,14 @@ fn line_for(input: &[u8], out: &mut [u8; 91]) -> usize
     verdicts::verdict_line(verdict, out)
 }
 
-// 65,536 bytes are enough to tell an input that is too long.
+// 65,536 bytes are enough to tell an input that is too long. There is no status to give: an answer that could not be written is
+// told on standard error.
 fn main() {
     let mut input = io::large_buffer();
     let read = io::read_full(STDIN_FILENO, &mut input);
     let mut line = [0u8; 91];
     let length = line_for(&input[..read], &mut line);
-    io::write_all(STDOUT_FILENO, &line[..length]);
+    if !io::write_all(STDOUT_FILENO, &line[..length]) {
+        let _told = io::write_all(STDERR_FILENO, b"judge: the answer could not be written\n");
+    }
 }

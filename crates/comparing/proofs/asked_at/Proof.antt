@@ -5,9 +5,6 @@ use borrow.Author.Needs.{needs}
 use Rattle.comparing.proofs.asked_at.Statement.{statement}
 use Rattle.comparing.proofs.asked_at.Tie as tie
 
-enum-told : tie.Need-enum-told
-enum-told c = search needs
-
 returns : tie.Need-returns
 unfolding asked-at
 returns c = simp (c .before .enum-told .given .1, eq-eqb _ _ (c .match2 .keys1))
@@ -51,8 +48,7 @@ returns-10 c = simp (c .before .enum-told3 .given .1, ne-eqb _ _ (c .match4 .res
 pub asked-at-spec : {M : Type 1} → statement M
 asked-at-spec =
     tie.close (tie.spec
-    enum-told
-    (λ c. search needs) (λ c. search needs)
+    (λ c. search needs) (λ c. search needs) (λ c. search needs)
     returns
     returns-2
     returns-3

@@ -4,9 +4,6 @@ use borrow.Author.Needs.{needs}
 use Rattle.comparing.proofs.led_equal.Statement.{statement}
 use Rattle.comparing.proofs.led_equal.Tie as tie
 
-enum-told : tie.Need-enum-told
-enum-told c = search needs
-
 returns : tie.Need-returns
 returns c = led-fault (c .before .before .before .led .ensures) (c .before .n .given .1)
 
@@ -16,9 +13,7 @@ returns-2 c = led-on (c .before .before .before .before .before .before .led .en
 pub led-equal-spec : {M : Type 1} → statement M
 led-equal-spec =
     tie.close (tie.spec
-    (λ c κs. search needs) (λ c. search needs)
-    enum-told
-    (λ c κs. search needs)
+    (λ c κs. search needs) (λ c. search needs) (λ c. search needs) (λ c κs. search needs)
     returns
     (λ c. search needs)
     returns-2)

@@ -4,9 +4,6 @@ use borrow.Author.Needs.{needs}
 use Rattle.descents.proofs.descent_base.Statement.{statement}
 use Rattle.descents.proofs.descent_base.Tie as tie
 
-enum-told : tie.Need-enum-told
-enum-told c = search needs
-
 returns : tie.Need-returns
 returns c = base-fault (c .before .before .before .before .before .check .ensures) (c .before .n .given .1)
 
@@ -16,8 +13,7 @@ returns-2 c = base-on (c .before .before .before .before .before .before .before
 pub descent-base-spec : {M : Type 1} → statement M
 descent-base-spec =
     tie.close (tie.spec
-    (λ c κs. search needs) (λ c κs. search needs) (λ c κs. search needs) (λ c. search needs)
-    enum-told
+    (λ c κs. search needs) (λ c κs. search needs) (λ c κs. search needs) (λ c. search needs) (λ c. search needs)
     (λ c κs. search needs) (λ c. search needs)
     returns
     (λ c. search needs)

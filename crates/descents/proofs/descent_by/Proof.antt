@@ -4,9 +4,6 @@ use borrow.Author.Needs.{needs}
 use Rattle.descents.proofs.descent_by.Statement.{statement}
 use Rattle.descents.proofs.descent_by.Tie as tie
 
-enum-told : tie.Need-enum-told
-enum-told c = search needs
-
 returns : tie.Need-returns
 returns c = by-fault (c .before .before .before .before .before .before .before .field .ensures) (c .before .before .before .before .before .descent-call .ensures) (c .before .n .given .1)
 
@@ -16,9 +13,8 @@ returns-2 c = by-on (c .before .before .before .before .before .before .before .
 pub descent-by-spec : {M : Type 1} → statement M
 descent-by-spec =
     tie.close (tie.spec
-    (λ c κs. search needs) (λ c κs. search needs) (λ c. search needs)
-    enum-told
-    (λ c κs. search needs) (λ c. search needs)
+    (λ c κs. search needs) (λ c κs. search needs) (λ c. search needs) (λ c. search needs) (λ c κs. search needs)
+    (λ c. search needs)
     returns
     (λ c. search needs)
     returns-2)

@@ -4,9 +4,6 @@ use borrow.Author.Needs.{needs}
 use Rattle.descents.proofs.descent_head.Statement.{statement}
 use Rattle.descents.proofs.descent_head.Tie as tie
 
-enum-told : tie.Need-enum-told
-enum-told c = search needs
-
 returns : tie.Need-returns
 returns c = head-fault (c .before .before .before .before .before .descent-base .ensures) (c .before .n .given .1)
 
@@ -16,9 +13,7 @@ returns-2 c = head-on (c .before .before .before .before .before .before .before
 pub descent-head-spec : {M : Type 1} → statement M
 descent-head-spec =
     tie.close (tie.spec
-    (λ c κs. search needs) (λ c. search needs)
-    enum-told
-    (λ c κs. search needs) (λ c. search needs)
+    (λ c κs. search needs) (λ c. search needs) (λ c. search needs) (λ c κs. search needs) (λ c. search needs)
     returns
     (λ c. search needs)
     returns-2)

@@ -4,9 +4,6 @@ use borrow.Author.Needs.{needs}
 use Rattle.descents.proofs.level_right.Statement.{statement}
 use Rattle.descents.proofs.level_right.Tie as tie
 
-enum-told : tie.Need-enum-told
-enum-told c = search needs
-
 returns : tie.Need-returns
 returns c = level-fault (c .before .before .before .before .before .check .ensures) (c .before .n .given .1)
 
@@ -16,9 +13,7 @@ returns-2 c = level-good (c .before .before .before .before .check .ensures) (c 
 pub level-right-spec : {M : Type 1} → statement M
 level-right-spec =
     tie.close (tie.spec
-    (λ c κs. search needs) (λ c. search needs)
-    enum-told
-    (λ c. search needs)
+    (λ c κs. search needs) (λ c. search needs) (λ c. search needs) (λ c. search needs)
     returns
     (λ c. search needs)
     returns-2)

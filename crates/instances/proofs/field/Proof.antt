@@ -4,9 +4,6 @@ use borrow.Author.Needs.{needs}
 use Rattle.instances.proofs.field.Statement.{statement}
 use Rattle.instances.proofs.field.Tie as tie
 
-enum-told : tie.Need-enum-told
-enum-told c = search needs
-
 returns : tie.Need-returns
 returns c = takes-past _ _ _ (c .before .before .before .before .pre) (c .before .before .take .ensures) (c .enum-told .given .1)
 
@@ -16,8 +13,6 @@ returns-2 c = takes-got _ _ _ (c .before .before .before .before .before .pre) _
 pub field-spec : {M : Type 1} → statement M
 field-spec =
     tie.close (tie.spec
-    (λ c κs. search needs)
-    enum-told
-    (λ c. search needs)
+    (λ c κs. search needs) (λ c. search needs) (λ c. search needs)
     returns
     returns-2)

@@ -18,9 +18,6 @@ loop-holds c = levelling-start _ _ _
 step-requires : tie.Need-step-requires Inv-loop μ-loop
 step-requires c κs = c .loop .inv .few
 
-enum-told : tie.Need-enum-told Inv-loop μ-loop
-enum-told c = search needs
-
 returns : tie.Need-returns Inv-loop μ-loop
 returns c = levelling-over (c .before .before .before .loop .inv) (c .before .before .step .ensures) (c .enum-told .given .1)
 
@@ -43,8 +40,7 @@ level-spec =
     μ-loop
     loop-holds
     step-requires
-    (λ c. search needs)
-    enum-told
+    (λ c. search needs) (λ c. search needs)
     returns
     (λ c κs. search needs)
     returns-2

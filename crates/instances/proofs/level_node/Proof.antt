@@ -4,9 +4,6 @@ use borrow.Author.Needs.{needs}
 use Rattle.instances.proofs.level_node.Statement.{statement}
 use Rattle.instances.proofs.level_node.Tie as tie
 
-enum-told : tie.Need-enum-told
-enum-told c = search needs
-
 returns : tie.Need-returns
 returns c = level-node-variable _ _ _ (c .enum-told .given .1)
 
@@ -22,8 +19,7 @@ returns-4 c = level-node-missing _ (c .enum-told3 .given .1)
 pub level-node-spec : {M : Type 1} → statement M
 level-node-spec =
     tie.close (tie.spec
-    enum-told
-    (λ c. search needs) (λ c. search needs) (λ c. search needs)
+    (λ c. search needs) (λ c. search needs) (λ c. search needs) (λ c. search needs)
     returns
     returns-2
     returns-3

@@ -5,9 +5,6 @@ use borrow.Author.Needs.{needs}
 use Rattle.instances.proofs.next.Statement.{statement}
 use Rattle.instances.proofs.next.Tie as tie
 
-enum-told : tie.Need-enum-told
-enum-told c = search needs
-
 returns : tie.Need-returns
 unfolding next-stand
 returns c = record { is = simp (c .before .header .given .1); few = omega arith }
@@ -28,8 +25,7 @@ pub next-spec : {M : Type 1} → statement M
 next-spec =
     tie.close (tie.spec
     (λ c. search needs) (λ c. search needs) (λ c. search needs) (λ c. search needs) (λ c. search needs)
-    (λ c. search needs) (λ c. search needs)
-    enum-told
+    (λ c. search needs) (λ c. search needs) (λ c. search needs)
     returns
     returns-2
     returns-3

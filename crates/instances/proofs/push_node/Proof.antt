@@ -13,9 +13,6 @@ push-requires-2 c κs = (c .before .before .before .before .before .pre .0, appl
 push-requires-3 : tie.Need-push-requires-3
 push-requires-3 c κs = (c .before .before .before .before .before .before .pre .0, fits _ _ (c .reindexed .ensures .light) (c .before .before .before .before .before .before .pre .1))
 
-enum-told : tie.Need-enum-told
-enum-told c = search needs
-
 returns : tie.Need-returns
 returns c = node-variable _ _ _ _ _ _ _ _ _ _ (c .before .before .before .before .before .header .given .1) (c .before .before .push .ensures)
 
@@ -37,8 +34,7 @@ push-node-spec =
     push-requires-2
     (λ c. search needs) (λ c κs. search needs)
     push-requires-3
-    enum-told
-    (λ c. search needs)
+    (λ c. search needs) (λ c. search needs)
     returns
     (λ c. search needs)
     returns-2

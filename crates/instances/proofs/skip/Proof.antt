@@ -17,9 +17,6 @@ loop-holds c = going-start _ _ _ tt
 step-requires : tie.Need-step-requires Inv-loop μ-loop
 step-requires c κs = c .loop .inv .few
 
-enum-told : tie.Need-enum-told Inv-loop μ-loop
-enum-told c = search needs
-
 returns : tie.Need-returns Inv-loop μ-loop
 returns c = skipped _ _ _ _ _ (going-over (c .before .before .before .loop .inv) (c .before .before .step .ensures) (c .enum-told .given .1))
 
@@ -39,8 +36,7 @@ skip-spec =
     μ-loop
     loop-holds
     step-requires
-    (λ c. search needs)
-    enum-told
+    (λ c. search needs) (λ c. search needs)
     returns
     sub-left
     loop-less

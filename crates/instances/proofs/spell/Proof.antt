@@ -19,9 +19,6 @@ loop-holds c = pushing-start _ _ _ _ _ _ _ (c .before .before .before .pre .0 .f
 step-requires : tie.Need-step-requires Inv-loop μ-loop
 step-requires c κs = c .loop .inv .few
 
-enum-told : tie.Need-enum-told Inv-loop μ-loop
-enum-told c = search needs
-
 returns : tie.Need-returns Inv-loop μ-loop
 returns c = spelled _ _ _ _ (pushing-over _ _ _ _ _ _ _ _ _ _ _ (c .before .before .before .loop .inv) (c .before .before .step .ensures) (c .enum-told .given .1))
 
@@ -47,9 +44,7 @@ spell-spec =
     μ-loop
     loop-holds
     step-requires
-    (λ c. search needs)
-    enum-told
-    (λ c. search needs)
+    (λ c. search needs) (λ c. search needs) (λ c. search needs)
     returns
     push-node-requires
     (λ c. search needs) (λ c. search needs) (λ c. search needs)

@@ -10,9 +10,6 @@ returns : tie.Need-returns
 unfolding wordOf entry
 returns c = simp (c .before .before .before .header .given .1, lt-ltb _ _ (c .before .if1 .taken))
 
-enum-told : tie.Need-enum-told
-enum-told c = search needs
-
 returns-2 : tie.Need-returns-2
 unfolding wordOf entry
 returns-2 c = simp (c .before .before .header .given .1, le-ltb _ _ (c .if1 .left))
@@ -34,8 +31,7 @@ word-of-spec =
     tie.close (tie.spec
     (λ c. search needs) (λ c. search needs) (λ c. search needs) (λ c. search needs) (λ c. search needs)
     returns
-    enum-told
-    (λ c. search needs) (λ c. search needs)
+    (λ c. search needs) (λ c. search needs) (λ c. search needs)
     returns-2
     returns-3
     returns-4

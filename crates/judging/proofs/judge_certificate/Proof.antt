@@ -5,9 +5,6 @@ use borrow.Author.Needs.{needs}
 use Rattle.judging.proofs.judge_certificate.Statement.{statement}
 use Rattle.judging.proofs.judge_certificate.Tie as tie
 
-enum-told : tie.Need-enum-told
-enum-told c = search needs
-
 returns : tie.Need-returns
 returns c = (certificate-shut (c .before .before .before .before .before .before .before .before .pre .0) (c .before .before .before .open-certificate .ensures) (c .before .r .given .1), refl)
 
@@ -17,9 +14,7 @@ returns-2 c = (certificate-judged (c .before .before .before .before .before .be
 pub judge-certificate-spec : {M : Type 1} → statement M
 judge-certificate-spec =
     tie.close (tie.spec
-    (λ c κs. search needs) (λ c. search needs)
-    enum-told
-    (λ c κs. search needs)
+    (λ c κs. search needs) (λ c. search needs) (λ c. search needs) (λ c κs. search needs)
     returns
     (λ c. search needs)
     returns-2)

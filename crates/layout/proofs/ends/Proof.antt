@@ -8,9 +8,6 @@ use Rattle.layout.proofs.ends.Tie as tie
 returns : tie.Need-returns
 returns c = sym (ends-long _ _ (c .if1 .taken))
 
-enum-told : tie.Need-enum-told
-enum-told c = search needs
-
 returns-2 : tie.Need-returns-2
 returns-2 c = sym (ends-past _ _ (c .before .before .before .if1 .left) (c .before .before .before .before .before .pre .0) (c .before .before .before .before .before .pre .1) (c .before .before .take .ensures) (c .enum-told .given .1))
 
@@ -22,8 +19,6 @@ ends-spec =
     tie.close (tie.spec
     (λ c. search needs)
     returns
-    (λ c. search needs) (λ c. search needs) (λ c κs. search needs)
-    enum-told
-    (λ c. search needs)
+    (λ c. search needs) (λ c. search needs) (λ c κs. search needs) (λ c. search needs) (λ c. search needs)
     returns-2
     returns-3)

@@ -6,9 +6,6 @@ use borrow.Author.Needs.{needs}
 use Rattle.lines.proofs.closing_by.Statement.{statement}
 use Rattle.lines.proofs.closing_by.Tie as tie
 
-enum-told : tie.Need-enum-told
-enum-told c = search needs
-
 returns : tie.Need-returns
 unfolding w-of
 returns c = closing-fault (c .before .before .before .before .before .before .closing-parts .ensures) (c .before .before .n .given .1) (refused-verdict _ (c .carried .ensures))
@@ -19,9 +16,8 @@ returns-2 c = closing-good (c .before .before .before .before .before .closing-p
 pub closing-by-spec : {M : Type 1} → statement M
 closing-by-spec =
     tie.close (tie.spec
-    (λ c κs. search needs) (λ c. search needs) (λ c κs. search needs)
-    enum-told
-    (λ c κs. search needs) (λ c. search needs)
+    (λ c κs. search needs) (λ c. search needs) (λ c κs. search needs) (λ c. search needs) (λ c κs. search needs)
+    (λ c. search needs)
     returns
     (λ c. search needs)
     returns-2)

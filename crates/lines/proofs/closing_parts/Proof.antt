@@ -4,9 +4,6 @@ use borrow.Author.Needs.{needs}
 use Rattle.lines.proofs.closing_parts.Statement.{statement}
 use Rattle.lines.proofs.closing_parts.Tie as tie
 
-enum-told : tie.Need-enum-told
-enum-told c = search needs
-
 returns : tie.Need-returns
 returns c = closing-empty (c .before .before .before .before .before .check .ensures) (c .before .before .before .before .before .before .before .before .before .before .noted .ensures) (c .before .before .before .before .before .before .before .before .noted2 .ensures) (c .before .n .given .1)
 
@@ -17,9 +14,8 @@ pub closing-parts-spec : {M : Type 1} → statement M
 closing-parts-spec =
     tie.close (tie.spec
     (λ c. search needs) (λ c κs. search needs) (λ c. search needs) (λ c κs. search needs) (λ c κs. search needs)
-    (λ c. search needs) (λ c κs. search needs) (λ c. search needs)
-    enum-told
-    (λ c κs. search needs) (λ c. search needs)
+    (λ c. search needs) (λ c κs. search needs) (λ c. search needs) (λ c. search needs) (λ c κs. search needs)
+    (λ c. search needs)
     returns
     (λ c. search needs)
     returns-2)

@@ -4,9 +4,6 @@ use borrow.Author.Needs.{needs}
 use Rattle.unfolds.proofs.ending.Statement.{statement}
 use Rattle.unfolds.proofs.ending.Tie as tie
 
-enum-told : tie.Need-enum-told
-enum-told c = search needs
-
 returns : tie.Need-returns
 returns c = ends-fault (c .before .found .given .1)
 
@@ -16,7 +13,6 @@ returns-2 c = ends-good (c .enum-told .given .1)
 pub ending-spec : {M : Type 1} → statement M
 ending-spec =
     tie.close (tie.spec
-    (λ c. search needs)
-    enum-told
+    (λ c. search needs) (λ c. search needs)
     returns
     returns-2)

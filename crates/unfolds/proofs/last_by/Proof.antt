@@ -4,9 +4,6 @@ use borrow.Author.Needs.{needs}
 use Rattle.unfolds.proofs.last_by.Statement.{statement}
 use Rattle.unfolds.proofs.last_by.Tie as tie
 
-enum-told : tie.Need-enum-told
-enum-told c = search needs
-
 returns : tie.Need-returns
 returns c = ends-early (c .before .before .before .before .before .before .before .behind-stop .ensures) (c .before .before .before .before .before .part-by .ensures) (c .before .n .given .1)
 
@@ -16,8 +13,7 @@ returns-2 c = ends-by (c .before .before .before .before .before .before .before
 pub last-by-spec : {M : Type 1} → statement M
 last-by-spec =
     tie.close (tie.spec
-    (λ c κs. search needs) (λ c κs. search needs) (λ c κs. search needs) (λ c. search needs)
-    enum-told
+    (λ c κs. search needs) (λ c κs. search needs) (λ c κs. search needs) (λ c. search needs) (λ c. search needs)
     (λ c κs. search needs) (λ c. search needs)
     returns
     (λ c. search needs)

@@ -4,9 +4,6 @@ use borrow.Author.Needs.{needs}
 use Rattle.comparing.proofs.rights.led.Statement.{statement}
 use Rattle.comparing.proofs.rights.led.Tie as tie
 
-enum-told : tie.Need-enum-told
-enum-told c = search needs
-
 returns : tie.Need-returns
 returns c = led-by (c .before .enum-told .given .1) (c .spent .ensures)
 
@@ -19,8 +16,7 @@ returns-3 c = led-by (c .enum-told3 .given .1) led-nothing
 pub led-spec : {M : Type 1} → statement M
 led-spec =
     tie.close (tie.spec
-    enum-told
-    (λ c κs. search needs) (λ c. search needs) (λ c κs. search needs) (λ c. search needs)
+    (λ c. search needs) (λ c κs. search needs) (λ c. search needs) (λ c κs. search needs) (λ c. search needs)
     returns
     returns-2
     returns-3)

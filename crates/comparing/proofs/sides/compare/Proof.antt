@@ -4,9 +4,6 @@ use borrow.Author.Needs.{needs}
 use Rattle.comparing.proofs.sides.compare.Statement.{statement}
 use Rattle.comparing.proofs.sides.compare.Tie as tie
 
-enum-told : tie.Need-enum-told
-enum-told c = search needs
-
 returns : tie.Need-returns
 returns c = first-full (c .before .before .before .before .one-side .ensures) (c .enum-told .given .1)
 
@@ -25,9 +22,7 @@ returns-4 c = compares-unequal (c .before .before .before .before .before .befor
 pub compare-spec : {M : Type 1} → statement M
 compare-spec =
     tie.close (tie.spec
-    (λ c κs. search needs) (λ c. search needs)
-    enum-told
-    (λ c. search needs)
+    (λ c κs. search needs) (λ c. search needs) (λ c. search needs) (λ c. search needs)
     returns
     (λ c κs. search needs) (λ c. search needs) (λ c. search needs) (λ c. search needs)
     returns-2

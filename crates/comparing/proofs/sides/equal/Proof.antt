@@ -4,9 +4,6 @@ use borrow.Author.Needs.{needs}
 use Rattle.comparing.proofs.sides.equal.Statement.{statement}
 use Rattle.comparing.proofs.sides.equal.Tie as tie
 
-enum-told : tie.Need-enum-told
-enum-told c = search needs
-
 returns : tie.Need-returns
 returns c = equals-too-big _ _ (c .before .before .before .before .compare .ensures) (c .enum-told .given .1)
 
@@ -19,9 +16,7 @@ returns-3 c = equals-equal _ _ (c .before .before .before .before .before .compa
 pub equal-spec : {M : Type 1} → statement M
 equal-spec =
     tie.close (tie.spec
-    (λ c κs. search needs)
-    enum-told
-    (λ c. search needs) (λ c. search needs) (λ c. search needs)
+    (λ c κs. search needs) (λ c. search needs) (λ c. search needs) (λ c. search needs) (λ c. search needs)
     returns
     (λ c. search needs)
     returns-2

@@ -4,9 +4,6 @@ use borrow.Author.Needs.{needs}
 use Rattle.comparing.proofs.sides.one_side.Statement.{statement}
 use Rattle.comparing.proofs.sides.one_side.Tie as tie
 
-enum-told : tie.Need-enum-told
-enum-told c = search needs
-
 returns : tie.Need-returns
 returns c = sided-as (c .enum-told .given .1) (sided-empty _ _ _ _)
 
@@ -19,8 +16,8 @@ returns-3 c = sided-as (c .before .before .before .before .before .before .a2 .g
 pub one-side-spec : {M : Type 1} → statement M
 one-side-spec =
     tie.close (tie.spec
-    enum-told
-    (λ c. search needs) (λ c κs. search needs) (λ c. search needs) (λ c κs. search needs) (λ c κs. search needs)
+    (λ c. search needs) (λ c. search needs) (λ c κs. search needs) (λ c. search needs) (λ c κs. search needs)
+    (λ c κs. search needs)
     returns
     (λ c. search needs)
     returns-2

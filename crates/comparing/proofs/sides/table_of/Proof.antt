@@ -5,9 +5,6 @@ use borrow.Author.Needs.{needs}
 use Rattle.comparing.proofs.sides.table_of.Statement.{statement}
 use Rattle.comparing.proofs.sides.table_of.Tie as tie
 
-enum-told : tie.Need-enum-told
-enum-told c = search needs
-
 returns : tie.Need-returns
 unfolding table-of
 returns c = (simp (c .enum-told .given .1), omega arith)
@@ -19,7 +16,6 @@ returns-2 c = (simp (c .enum-told2 .given .1), omega arith)
 pub table-of-spec : {M : Type 1} → statement M
 table-of-spec =
     tie.close (tie.spec
-    enum-told
-    (λ c. search needs)
+    (λ c. search needs) (λ c. search needs)
     returns
     returns-2)

@@ -4,9 +4,6 @@ use borrow.Author.Needs.{needs}
 use Rattle.instances.proofs.nodes.header_at.Statement.{statement}
 use Rattle.instances.proofs.nodes.header_at.Tie as tie
 
-enum-told : tie.Need-enum-told
-enum-told c = search needs
-
 returns : tie.Need-returns
 returns c = header-past _ _ _ _ (c .before .before .take .ensures) (c .enum-told .given .1)
 
@@ -25,8 +22,7 @@ returns-5 c = header-missing _ _ _ _ _ _ (c .before .before .before .before .tak
 pub header-at-spec : {M : Type 1} → statement M
 header-at-spec =
     tie.close (tie.spec
-    (λ c κs. search needs) (λ c. search needs)
-    enum-told
+    (λ c κs. search needs) (λ c. search needs) (λ c. search needs)
     returns
     (λ c κs. search needs) (λ c κs. search needs) (λ c κs. search needs)
     returns-2

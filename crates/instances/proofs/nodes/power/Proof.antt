@@ -4,9 +4,6 @@ use borrow.Author.Needs.{needs}
 use Rattle.instances.proofs.nodes.power.Statement.{statement}
 use Rattle.instances.proofs.nodes.power.Tie as tie
 
-enum-told : tie.Need-enum-told
-enum-told c = search needs
-
 returns : tie.Need-returns
 returns c = power-past _ _ _ (c .before .before .take .ensures) (c .enum-told .given .1)
 
@@ -22,8 +19,7 @@ returns-4 c = power-got _ _ _ _ _ _ (c .before .before .before .before .before .
 pub power-spec : {M : Type 1} → statement M
 power-spec =
     tie.close (tie.spec
-    (λ c κs. search needs) (λ c. search needs)
-    enum-told
+    (λ c κs. search needs) (λ c. search needs) (λ c. search needs)
     returns
     (λ c κs. search needs) (λ c. search needs) (λ c. search needs)
     returns-2

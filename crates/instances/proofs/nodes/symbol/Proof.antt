@@ -4,9 +4,6 @@ use borrow.Author.Needs.{needs}
 use Rattle.instances.proofs.nodes.symbol.Statement.{statement}
 use Rattle.instances.proofs.nodes.symbol.Tie as tie
 
-enum-told : tie.Need-enum-told
-enum-told c = search needs
-
 returns : tie.Need-returns
 returns c = symbol-got _ _ _ _ _ _ _ _ (c .before .before .before .before .before .take .ensures) (c .before .before .before .f .given .1) (c .arity .ensures)
 
@@ -16,7 +13,6 @@ returns-2 c = symbol-past _ _ _ _ (c .before .before .take .ensures) (c .enum-to
 pub symbol-spec : {M : Type 1} → statement M
 symbol-spec =
     tie.close (tie.spec
-    (λ c κs. search needs) (λ c. search needs) (λ c. search needs) (λ c κs. search needs)
-    enum-told
+    (λ c κs. search needs) (λ c. search needs) (λ c. search needs) (λ c κs. search needs) (λ c. search needs)
     returns
     returns-2)

@@ -4,9 +4,6 @@ use borrow.Author.Needs.{needs}
 use Rattle.instances.proofs.nodes.variable.Statement.{statement}
 use Rattle.instances.proofs.nodes.variable.Tie as tie
 
-enum-told : tie.Need-enum-told
-enum-told c = search needs
-
 returns : tie.Need-returns
 returns c = variable-got _ _ _ _ _ (c .before .before .before .take .ensures) (c .before .x .given .1)
 
@@ -16,7 +13,6 @@ returns-2 c = variable-past _ _ _ (c .before .before .take .ensures) (c .enum-to
 pub variable-spec : {M : Type 1} → statement M
 variable-spec =
     tie.close (tie.spec
-    (λ c κs. search needs) (λ c. search needs)
-    enum-told
+    (λ c κs. search needs) (λ c. search needs) (λ c. search needs)
     returns
     returns-2)
