@@ -178,3 +178,14 @@ fn the_program_prints_the_same_line() {
         assert_eq!(said(&printed.stdout), line);
     }
 }
+
+/// An answer that `judge` could not write is told on standard error; it has no status for it.
+#[test]
+fn the_program_tells_that_a_write_failed() {
+    let Ok(program) = std::env::var("JUDGE") else { return };
+    let full = OpenOptions::new().write(true).open("/dev/full").unwrap();
+    let mut judge = Command::new(program);
+    let told = judge.stdin(Stdio::null()).stdout(full).output().unwrap();
+    assert_eq!(said(&told.stderr), "judge: the answer could not be written\n");
+    assert_eq!(told.status.code(), Some(0));
+}
