@@ -26,7 +26,7 @@ use Rattle.instances.specs.Fillings.{FillsTold}
 use Rattle.begins.specs.Placed.{RightAt, LeftAt}
 use Rattle.instances.specs.Taking.{Takes}
 use Rattle.begins.specs.Known.{Known, Scene, Uses}
-use Rattle.comparing.specs.Subjects.{table-of, Means, RightMeans}
+use Rattle.comparing.specs.Subjects.{fills-of, Means, RightMeans}
 use Rattle.instances.proofs.Lying.{lies-rest}
 use Rattle.instances.proofs.Terms.{as-it-is}
 use Rattle.instances.proofs.Taking.{term-at}
@@ -34,7 +34,7 @@ use Rattle.begins.proofs.Frames.{bare-tells}
 
 -- a term of the certificate, reindexed and filled
 claimed-means : {book cert w ars : List ℕ} {at : ℕ} {t : Pattern} (f : Filled) (θ : Filling Exp) (i j : ℕ) → Known-arities book ars
-    → FillsTold book cert w (table-of f) θ → LeftAt cert ars at t → Means book cert w (Claimed at i j f) (some (fill θ (reindex one (i, j) t))) (behind at t)
+    → FillsTold book cert w (fills-of f) θ → LeftAt cert ars at t → Means book cert w (Claimed at i j f) (some (fill θ (reindex one (i, j) t))) (behind at t)
 unfolding Means
 claimed-means {t = t} f θ i j a g l = record { term = t; filling = θ; lies = term-at a (l .fits) (l .lies); filled = g; mark = refl; ends = refl }
 
@@ -55,7 +55,7 @@ module _ {book cert w ars : List ℕ} {B : Book Exp} {es : List (Claim Exp)} whe
   -- a left reindexed
   pub left-means : {at : ℕ} {t : Pattern} (i j : ℕ) → Known book cert w ars B es → LeftAt cert ars at t
       → Means book cert w (Claimed at i j Bare) (some (reindex one (i, j) t)) (behind at t)
-  unfolding table-of
+  unfolding fills-of
   left-means {at} {t} i j k l =
       subst (λ u. Means book cert w (Claimed at i j Bare) (some u) (behind at t)) (fill-var (reindex one (i, j) t))
       (claimed-means Bare var i j (k .arity) (bare-tells k) l)
@@ -67,7 +67,7 @@ module _ {book cert w ars : List ℕ} {B : Book Exp} {es : List (Claim Exp)} whe
   -- a left reindexed and filled by a filling that stands in the table of uses
   pub filled-means : {at : ℕ} {t : Pattern} (θ : Fills Exp) (i j : ℕ) → Known book cert w ars B es → FillsTold book cert w USED (by θ) → LeftAt cert ars at t
       → Means book cert w (Claimed at i j Used) (some (fill (by θ) (reindex one (i, j) t))) (behind at t)
-  unfolding table-of
+  unfolding fills-of
   filled-means θ i j k f l = claimed-means Used (by θ) i j (k .arity) f l
 
   -- the instance of a used left
@@ -107,7 +107,7 @@ module _ {cert : List ℕ} {at : ℕ} {c : Read} (t : Takes cert 1 at c) (i j : 
   unfolding if-any
   right-there ne = record { told = go }
     where
-      go : (book w ars : List ℕ) (θ : Filling Exp) → Known-arities book ars → FillsTold book cert w (table-of f) θ → (m : Mark Exp) → RightAt cert ars at m
+      go : (book w ars : List ℕ) (θ : Filling Exp) → Known-arities book ars → FillsTold book cert w (fills-of f) θ → (m : Mark Exp) → RightAt cert ars at m
           → (end : ℕ) × Means book cert w (Claimed (c .at) i j f) (Option·map (λ t. fill θ (reindex one (i, j) t)) m) end
       go book w ars θ a g none r = absurd (ne (t .told 0 [] (r .lies) .0))
       go book w ars θ a g (some u) r = (behind (c .at) u, claimed-means f θ i j a g (right-left t r))
@@ -119,7 +119,7 @@ bare-mark i j (some t) = ap some (fill-var (reindex one (i, j) t))
 
 pub plain-right : {book cert w ars : List ℕ} {B : Book Exp} {es : List (Claim Exp)} {at i j : ℕ} {r : Subject} → RightMeans cert at i j Bare r
     → Known book cert w ars B es → (m : Mark Exp) → RightAt cert ars at m → (end : ℕ) × Means book cert w r (reindex-mark one (i, j) m) end
-unfolding table-of
+unfolding fills-of
 plain-right {book} {cert} {w} {ars} {i = i} {j = j} {r = r} h k m a =
     let x = h .told book w ars var (k .arity) (bare-tells k) m a in
     (x .0, subst (λ n. Means book cert w r n (x .0)) (bare-mark i j m) (x .1))
@@ -133,7 +133,7 @@ used-mark u i j e (some t) = ap (λ q. some (fill (by (u .fills)) (reindex one q
 pub used-right : {book cert w ars : List ℕ} {B : Book Exp} {es : List (Claim Exp)} {u : Use Exp Pair} {c : Claim Exp} {x : Instance} {r : Subject}
     → RightMeans cert (x .right) (x .i) (x .j) Used r → Known book cert w ars B es → Uses book cert w ars u c x
     → (end : ℕ) × Means book cert w r (instance-mark one u (c .right)) end
-unfolding table-of
+unfolding fills-of
 used-right {book} {cert} {w} {ars} {u = u} {c = c} {x = x} {r = r} h k y =
     let z = h .told book w ars (by (u .fills)) (k .arity) (y .used) (c .right) (y .claim-at .right-at) in
     (z .0, subst (λ n. Means book cert w r n (z .0)) (used-mark u (x .i) (x .j) (λ i. (sym (y .i) i, sym (y .j) i)) (c .right)) (z .1))

@@ -29,7 +29,7 @@ use Rattle.instances.specs.declared.Side.the-variants.{Done, Full}
 use Rattle.instances.specs.Lying.{arities, behind}
 use Rattle.instances.specs.Instances.{Stored, FewNodes, Builds}
 use Rattle.begins.specs.Known.{Below}
-use Rattle.comparing.specs.Subjects.{InstanceAt, table-of, Means, Sided, Settles, Compares}
+use Rattle.comparing.specs.Subjects.{InstanceAt, fills-of, Means, Sided, Settles, Compares}
 use Rattle.instances.proofs.Terms.{formed-instance}
 use Rattle.begins.proofs.Frames.{below-then, below-less, kept-below, tells-below}
 
@@ -47,8 +47,8 @@ instance-below h b x = record {
 }
 
 -- the words of a filling lie below the sides
-low-table : (f : Filled) → table-of f ≤ USED
-unfolding table-of
+low-table : (f : Filled) → fills-of f ≤ USED
+unfolding fills-of
 low-table Bare = omega arith
 low-table Used = omega arith
 
@@ -91,7 +91,7 @@ module _ {book cert w after : List ℕ} {base at : ℕ} {r : Side} where
   unfolding Means
   sided-call b = record { told = stored-instance b; few = b .few; kept = b .kept }
 
-  pub sided-claimed : (i j : ℕ) (f : Filled) {fills : ℕ} → fills ≡ table-of f → Builds book cert cert base at i j fills w after r
+  pub sided-claimed : (i j : ℕ) (f : Filled) {fills : ℕ} → fills ≡ fills-of f → Builds book cert cert base at i j fills w after r
       → Sided book cert base (Claimed at i j f) w after r
   unfolding Means
   sided-claimed i j f e b =

@@ -24,7 +24,7 @@ use Rattle.instances.specs.Instances.{Stored, FewNodes}
 use Rattle.begins.specs.Placed.{RightAt}
 use Rattle.begins.specs.Known.{Below}
 
--- an instance of the term at a bit of s, filled as the table at `fills` tells
+-- an instance of the term at a bit of s, filled as the words at `fills` tell
 pub record InstanceAt (book s cert w : List ℕ) (at i j fills : ℕ) (m : Mark Exp) (end : ℕ) : Type 0 where
   pub term : Pattern
   pub filling : Filling Exp
@@ -34,15 +34,15 @@ pub record InstanceAt (book s cert w : List ℕ) (at i j fills : ℕ) (m : Mark 
   pub ends : end ≡ behind at term
 
 -- where the words of its filling stand
-unfoldable pub table-of : Filled → ℕ
-table-of Bare = EMPTY
-table-of Used = USED
+unfoldable pub fills-of : Filled → ℕ
+fills-of Bare = EMPTY
+fills-of Used = USED
 
 -- the mark that a subject means, and the bit behind its term
 unfoldable pub Means : List ℕ → List ℕ → List ℕ → Subject → Mark Exp → ℕ → Type 0
 Means book cert w Empty m end = (m ≡ none) × (end ≡ 0)
 Means book cert w (Call at) m end = InstanceAt book book cert w at 1 0 OWN m end
-Means book cert w (Claimed at i j f) m end = InstanceAt book cert cert w at i j (table-of f) m end
+Means book cert w (Claimed at i j f) m end = InstanceAt book cert cert w at i j (fills-of f) m end
 
 -- a side was built
 pub record Sided (book cert : List ℕ) (base : ℕ) (a : Subject) (w after : List ℕ) (r : Side) : Type 0 where
@@ -63,5 +63,5 @@ pub record Compares (book cert : List ℕ) (a b : Subject) (w after : List ℕ) 
 
 -- the right that lies at a bit, as a subject
 pub record RightMeans (cert : List ℕ) (at i j : ℕ) (f : Filled) (r : Subject) : Type 0 where
-  pub told : (book w ars : List ℕ) (θ : Filling Exp) → Known-arities book ars → FillsTold book cert w (table-of f) θ → (m : Mark Exp) → RightAt cert ars at m
+  pub told : (book w ars : List ℕ) (θ : Filling Exp) → Known-arities book ars → FillsTold book cert w (fills-of f) θ → (m : Mark Exp) → RightAt cert ars at m
       → (end : ℕ) × Means book cert w r (Option·map (λ t. fill θ (reindex one (i, j) t)) m) end

@@ -13,12 +13,12 @@ ghost use mathlib.Core.Path.{_≡_};
 ghost use Prim.Native.Nat.{_+_, _≤_};
 ghost use lib.ListN.{length};
 ghost use Rattle.table.specs.Places.{WORDS, USED, FIRST, SIDE};
-ghost use Rattle.comparing.specs.Subjects.{table-of, Sided, Compares};
+ghost use Rattle.comparing.specs.Subjects.{fills-of, Sided, Compares};
 ghost use Rattle.comparing.specs.Asked.{Equals};
 
 // Where the words of a filling stand.
-fn table_of(filled: Filled) -> usize
-    ensures { λ r. ⌜ (r ≡ table-of filled) × (r ≤ USED) ⌝ }
+fn fills_of(filled: Filled) -> usize
+    ensures { λ r. ⌜ (r ≡ fills-of filled) × (r ≤ USED) ⌝ }
 {
     match filled {
         Filled::Bare => EMPTY,
@@ -43,7 +43,7 @@ fn one_side(book: &[u8], certificate: &[u8], w: &mut [u64], base: usize, a: Subj
             at,
             i,
             j,
-            table_of(filled),
+            fills_of(filled),
         ),
     }
 }

@@ -29,8 +29,8 @@ pub struct Read {
     pub at: usize,
 }
 
-// The header of a node, with the cursor past it: a variable, a symbol with its arity, or a power of a symbol with a and b. It is missing where a field
-// runs past the end or the tag is 3.
+// The header of a node, with the cursor past it: a variable, a symbol with its arity, or a power of a symbol with a and b. It is
+// missing where a field runs past the end or the tag is 3.
 enum Header {
     Variable {
         variable: u16,
@@ -247,8 +247,8 @@ fn push_filled(
     spell(book, certificate, w, base, n, (word - 1) as usize)
 }
 
-// The instance of the term at a bit of s, reindexed by (i, j) and filled as the table at `fills` tells by terms of the certificate: the nodes of its
-// normal form on the side at `base`.
+// The instance of the term at a bit of s, reindexed by (i, j) and filled by terms of the certificate as the words at `fills` tell: the
+// nodes of its normal form on the side at `base`.
 pub fn build(
     book: &[u8],
     s: &[u8],

@@ -74,9 +74,9 @@ fn closing_parts(
 {
     let left = begins::noted(w, LEFTS + line);
     let right = begins::noted(w, RIGHTS + line);
-    let from = comparing::claimed_right(certificate, right, 1, alpha, Filled::Bare);
+    let first = comparing::claimed_right(certificate, right, 1, alpha, Filled::Bare);
     let later = alpha + k;
-    let to = Subject::Claimed {
+    let second = Subject::Claimed {
         at: left,
         i: 1,
         j: later,
@@ -102,8 +102,8 @@ fn closing_parts(
             1,
             right,
             Behind::Nothing,
-            from,
-            to,
+            first,
+            second,
         ),
     }
 }

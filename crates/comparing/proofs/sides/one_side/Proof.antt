@@ -11,7 +11,7 @@ returns-2 : tie.Need-returns-2
 returns-2 c = sided-as (c .before .before .before .before .before .a .given .1) (sided-call (c .before .before .build .ensures))
 
 returns-3 : tie.Need-returns-3
-returns-3 c = sided-as (c .before .before .before .before .before .before .a2 .given .1) (sided-claimed _ _ _ (c .before .before .before .table-of .ensures .0) (c .before .before .build2 .ensures))
+returns-3 c = sided-as (c .before .before .before .before .before .before .a2 .given .1) (sided-claimed _ _ _ (c .before .before .before .fills-of .ensures .0) (c .before .before .build2 .ensures))
 
 pub one-side-spec : {M : Type 1} → statement M
 one-side-spec =
