@@ -89,7 +89,18 @@ verdict-tells = inverse-tells paper-verdict code-verdict verdict-back
 pub coverage-tells : (p q : Coverage) → paper-coverage p ≡ paper-coverage q → p ≡ q
 coverage-tells = inverse-tells paper-coverage code-coverage coverage-back
 
--- Two verdicts with their tables, where 01's numbers and what is left are determined, are the same.
+-- ---- an answer with its table, where the numbers and what is left are determined
+
+once : {A B : Type 0} {f : A → B} → ((p q : A) → f p ≡ f q → p ≡ q) → {v : B} {left : List ℕ} (p q : A) {after other : List ℕ}
+    → (f p ≡ v) × (after ≡ left) → (f q ≡ v) × (other ≡ left) → (p ≡ q) × (after ≡ other)
+once tells p q h k = (tells p q (h .0 ∙ sym (k .0)), h .1 ∙ sym (k .1))
+
+-- Two verdicts with their tables are the same,
 pub one-verdict : {v : Ruling Pace} {left : List ℕ} (p q : Verdict) {after other : List ℕ}
     → (paper-verdict p ≡ v) × (after ≡ left) → (paper-verdict q ≡ v) × (other ≡ left) → (p ≡ q) × (after ≡ other)
-one-verdict p q h k = (verdict-tells p q (h .0 ∙ sym (k .0)), h .1 ∙ sym (k .1))
+one-verdict = once verdict-tells
+
+-- and so are two answers of `covers`.
+pub one-coverage : {v : Reply} {left : List ℕ} (p q : Coverage) {after other : List ℕ}
+    → (paper-coverage p ≡ v) × (after ≡ left) → (paper-coverage q ≡ v) × (other ≡ left) → (p ≡ q) × (after ≡ other)
+one-coverage = once coverage-tells
