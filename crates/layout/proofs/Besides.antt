@@ -61,9 +61,9 @@ book-arities s b d e =
     same ars q = cc
 
 module _ (book l : List ℕ) {b : RuleBook} {fs : List (ℕ × ℕ)} (opened : open-book book ≡ good b fs) where
-  pub arities-known : (λ f. arityAt book l false f) ≡ arity-in (b .arities)
+  opened-arities : (λ f. arityAt book l false f) ≡ arity-in (b .arities)
   unfolding open-book
-  arities-known =
+  opened-arities =
       let x = in-bytes book-place a-book book opened in
       fun-ext (in-bytes-only book l) ∙ book-arities book b (x .end) (x .found)
 
@@ -71,9 +71,12 @@ module _ (book l : List ℕ) {b : RuleBook} {fs : List (ℕ × ℕ)} (opened : o
   pub call-ran : {src : Source} {c : Walker} {ws bs ws₁ bs₁ : List ℕ} {r : Walk}
       → Ran src (a-call (λ f. arityAt book l false f)) c ws bs nothing r ws₁ bs₁
       → Ran src (a-call (arity-in (b .arities))) c ws bs nothing r ws₁ bs₁
-  call-ran {src} {c} {ws} {bs} {ws₁} {bs₁} {r} k = subst (λ ar. Ran src (a-call ar) c ws bs nothing r ws₁ bs₁) arities-known k
+  call-ran {src} {c} {ws} {bs} {ws₁} {bs₁} {r} k = subst (λ ar. Ran src (a-call ar) c ws bs nothing r ws₁ bs₁) opened-arities k
 
 module _ (book l counts : List ℕ) (h : Beside book counts) where
+  pub arities-known : (λ f. arityAt book l false f) ≡ arity-in (h .tree .arities)
+  arities-known = opened-arities book l (h .opened)
+
   pub few-counts : length counts < 256
   unfolding call-counts
   few-counts =
@@ -87,5 +90,5 @@ module _ (book l counts : List ℕ) (h : Beside book counts) where
       → Ran src (certificate-of (h .tree)) c ws bs nothing r ws₁ bs₁
   unfolding certificate-of
   beside-ran {src} {c} {ws} {bs} {ws₁} {bs₁} {r} k =
-      subst (λ ar. Ran src (a-certificate ar (call-counts (h .tree .rules))) c ws bs nothing r ws₁ bs₁) (arities-known book l (h .opened))
+      subst (λ ar. Ran src (a-certificate ar (call-counts (h .tree .rules))) c ws bs nothing r ws₁ bs₁) arities-known
       (subst (λ ms. Ran src (a-certificate (λ f. arityAt book l false f) ms) c ws bs nothing r ws₁ bs₁) (h .counted) k)
