@@ -1,4 +1,5 @@
--- Laws of 01's table of refusals: rows that are listed, that a refusal carries only what its number says, and the refusals 1 to 8.
+-- Laws of the table of refusals: rows that are listed, that a refusal carries only what its number says, the refusals 1 to 8, and those
+-- of a call.
 use Prim.Native.Nat.{ℕ, zero, suc, _≤_}
 use mathlib.Core.Path.{_≡_, refl, sym, _∙_, subst}
 use mathlib.Core.Logic.{inl, inr}
@@ -10,7 +11,7 @@ use borrow.Author.Tests.{ltb-true}
 use lib.Dec.{ltb}
 use lib.ListN.{getElem?}
 use Rattle.patterns.specs.Every.{Every}
-use Rattle.patterns.specs.Reason.{Reason, neither-place}
+use Rattle.patterns.specs.Reason.{Reason, neither-place, call-place}
 use Rattle.answers.specs.Carried.{refusal-at, Carries}
 use Rattle.answers.proofs.Carrying.{carried-field, carried-part, carried-nothing}
 use Rattle.answers.specs.InTable.{Column, only, span, Allows, Row, row, InRow, Among, refusal-rows, InTable}
@@ -69,7 +70,7 @@ unfolding InTable Every
 in-table-carries =
     among-shows Carries refusal-rows (
       bare,
-      (bare, (placed, (bare, (bare, (parted refl refl, (parted refl refl, (parted refl refl, (parted refl refl, (parted refl refl, (parted refl refl, (parted refl refl, (parted refl refl, (parted refl refl, (parted refl refl, (parted refl refl, (parted refl refl, (parted refl refl, (parted refl refl, (parted refl refl, tt))))))))))))))))))),
+      (bare, (placed, (bare, (bare, (parted refl refl, (parted refl refl, (parted refl refl, (parted refl refl, (parted refl refl, (parted refl refl, (parted refl refl, (parted refl refl, (parted refl refl, (parted refl refl, (parted refl refl, (parted refl refl, (parted refl refl, (parted refl refl, (parted refl refl, (placed, (bare, tt))))))))))))))))))))),
     )
 
 -- ---- the refusals 1 to 8
@@ -94,3 +95,13 @@ no-room-in-table w f = among-at 3 refusal-rows _ _ refl (record { number = refl;
 pub unframed-in-table : (number : ℕ) → 2 ≤ number → number ≤ 3 → InTable (refusal-at number neither-place 0)
 unfolding InTable Allows
 unframed-in-table number l m = among-at 4 refusal-rows _ _ refl (record { number = (l, m); w = refl; a = refl; b = refl })
+
+-- ---- the refusals of a call
+
+pub call-in-table : (number a : ℕ) → 3 ≤ number → number ≤ 7 → InTable (refusal-at number call-place a)
+unfolding InTable Allows
+call-in-table number a l m = among-at 20 refusal-rows _ _ refl (record { number = (l, m); w = refl; a = tt; b = refl })
+
+pub uncovered-in-table : InTable (refusal-at 17 neither-place 0)
+unfolding InTable Allows
+uncovered-in-table = among-at 21 refusal-rows _ _ refl (record { number = refl; w = refl; a = refl; b = refl })

@@ -1,9 +1,9 @@
--- 01, "Refusal numbers", as one table: the number, W, A and B of every refusal that there is.
+-- 01, "Refusal numbers", and what 02 adds to it, as one table: the number, W, A and B of every refusal that there is.
 use Prim.Native.Nat.{ℕ, _≤_}
 use mathlib.Core.Path.{_≡_}
 use mathlib.Core.Logic.{_⊎_}
 use mathlib.Core.List.{List, [], _∷_, _++_}
-use Rattle.patterns.specs.Reason.{Reason, book-place, certificate-place, line-place, closing-place, neither-place}
+use Rattle.patterns.specs.Reason.{Reason, book-place, certificate-place, line-place, closing-place, neither-place, call-place}
 use Rattle.patterns.specs.Certificate.{LineKind, unfolds, descends}
 
 -- what stands in a column: one number, all numbers from one to another, or any number
@@ -107,10 +107,16 @@ unfoldable pub line-rows : {E R : Type 0} → LineKind E R → List Row
 line-rows (unfolds k θ s) = unfold-rows
 line-rows (descends u k θ) = descent-rows
 
+-- ---- 02, Ticket 1: "then 3 to 7 for the call, with W = 5, [..]; then 17, W = 4, not covered"
+
+-- A is a bit offset in the call, and B is 0, as in the files; 17 has no place.
+abbrev pub call-rows : List Row
+call-rows = row (span 3 7) (only call-place) every zero-only ∷ row (only 17) neither zero-only zero-only ∷ []
+
 -- ---- the whole table
 
 abbrev pub refusal-rows : List Row
-refusal-rows = file-rows ++ unfold-rows ++ descent-rows ++ closing-rows
+refusal-rows = file-rows ++ unfold-rows ++ descent-rows ++ closing-rows ++ call-rows
 
 unfoldable pub InTable : Reason → Type 0
 InTable r = Among refusal-rows r

@@ -1,4 +1,4 @@
-// What the operations answer: W, a refusal, a verdict, and what reading and writing answer.
+// What the operations answer: W, a refusal, a verdict, what reading and writing answer, and whether a call is covered.
 ghost use mathlib.Core.Path.{_≡_};
 ghost use Rattle.answers.specs.Numbers.{w-of, paper-refusal};
 ghost use Rattle.answers.specs.Carried.{refusal-at, carried};
@@ -10,6 +10,7 @@ pub enum W {
     Line,
     Closing,
     Neither,
+    Call,
 }
 
 // A refusal: its number, what it speaks of, and the place there.
@@ -39,6 +40,12 @@ pub enum Answer {
     Refused(Refusal),
 }
 
+// What `covers` answers: the smallest index at which the call is covered, or a refusal.
+pub enum Coverage {
+    Covered(usize),
+    Refused(Refusal),
+}
+
 // The number of what a refusal speaks of.
 pub fn w_number(w: W) -> usize
     ensures { λ r. ⌜ r ≡ w-of w ⌝ }
@@ -49,6 +56,7 @@ pub fn w_number(w: W) -> usize
         W::Line => 2,
         W::Closing => 3,
         W::Neither => 4,
+        W::Call => 5,
     }
 }
 

@@ -16,7 +16,7 @@ use Rattle.fields.specs.declared.Field.the-variants.{Got, Bad}
 use Rattle.fields.specs.Source.{source, fieldAt, start}
 use Rattle.fields.specs.Kinds.{FieldKind, bits, Range, InRange, Unnormal, Spent}
 use Rattle.fields.specs.Grammar.{Grammar, ask, Outcome, outcome, trace}
-use Rattle.fields.specs.Faults.{Reached, Fault}
+use Rattle.fields.specs.Faults.{Led, Reached, Fault}
 use Rattle.fields.proofs.Ranges.{outside-exactly, unnormal-exactly}
 use Rattle.fields.proofs.Spelled.{bits-few}
 use Rattle.fields.proofs.Sources.{field-packed}
@@ -29,24 +29,24 @@ use Rattle.fields.proofs.Stops.{why, stops-spent, stops-bad, stops-refu
 
 -- ---- bytes
 
--- a file whose places can be counted
-abbrev pub Short : List ℕ → Type 0
-Short s = 8 * length s < 2 ^ 32
+-- the places that a grammar reaches in the bytes can be counted, and the field there: the file is short, or the grammar asks for few bits
+abbrev pub Counted : {A : Type 0} → List ℕ → Grammar A → Type 0
+Counted {A} s p = (fs : List (ℕ × ℕ)) (q : Grammar A) → Led p fs q → width fs ≤ 8 * length s → width fs + 16 < 2 ^ 32
 
-module _ (s : List ℕ) (short : Short s) (k : FieldKind) (d : Walker) (few : d .n < 2 ^ 32) (inside : d .bit ≤ 8 * length s) (packed : d .listed ≡ false) where
+module _ (s : List ℕ) (k : FieldKind) (d : Walker) (few : d .n < 2 ^ 32) (near : d .bit + 16 < 2 ^ 32) (packed : d .listed ≡ false) where
   byte-there : d .bit + bits k ≤ 8 * length s → fieldAt s [] (bits k) d ≡ Got (bitsAt s (d .bit) (bits k))
   byte-there h =
       field-packed s [] (bits k) d (bits-few k .1) few (omega arith) packed _
-      (sym (read-yes s (bits k) (d .bit) (bits-few k .1) (omega arith)))
+      (sym (read-yes s (bits k) (d .bit) (bits-few k .1) (omega (arith, bits-few k .1))))
 
   byte-past : 8 * length s < d .bit + bits k → fieldAt s [] (bits k) d ≡ Bad 3
   byte-past h =
       field-packed s [] (bits k) d (bits-few k .1) few (omega arith) packed _ (sym (read-past s (bits k) (d .bit) (omega arith)))
 
-module _ {A : Type 0} (s : List ℕ) (p : Grammar A) (short : Short s) where
-  byte-fault : (k : FieldKind) (r : Range) (next : ℕ → Grammar A) (d : Walker) (m : ℕ) → d .n < 2 ^ 32 → d .listed ≡ false
-      → Reached s p (d .bit) (ask k r next) → Why (source s []) k r d m → Fault s p m (d .bit)
-  byte-fault k r next d m few packed at w =
+module _ {A : Type 0} (s : List ℕ) (p : Grammar A) (counted : Counted s p) where
+  byte-fault : (k : FieldKind) (r : Range) (next : ℕ → Grammar A) (d : Walker) (m : ℕ) → d .n < 2 ^ 32 → d .bit + 16 < 2 ^ 32
+      → d .listed ≡ false → Reached s p (d .bit) (ask k r next) → Why (source s []) k r d m → Fault s p m (d .bit)
+  byte-fault k r next d m few near packed at w =
       why (source s []) k r d m w (λ h e. Fault.too-many at h e)
       (λ h e. unreadable h e (decLe (d .bit + bits k) (8 * length s)))
       (λ h v e i q. readable v e (decLe (d .bit + bits k) (8 * length s)) λ l g. Fault.outside at h l (subst (λ x. ¬ (InRange r x)) g i) q)
@@ -56,15 +56,15 @@ module _ {A : Type 0} (s : List ℕ) (p : Grammar A) (short : Short s) where
     where
       unreadable : ¬ (Spent r) → fieldAt s [] (bits k) d ≡ Bad m → Dec (d .bit + bits k ≤ 8 * length s) → Fault s p m (d .bit)
       unreadable h e (yes l) =
-          let q = byte-there s short k d few (at .inside) packed l in let z : _≡_ {A = ℕ} 0 1 = cc in absurd (omega arith)
+          let q = byte-there s k d few near packed l in let z : _≡_ {A = ℕ} 0 1 = cc in absurd (omega arith)
       unreadable h e (no l) =
-          let q = byte-past s short k d few (at .inside) packed (omega arith) in Fault.past-end at h (omega arith) (cc)
+          let q = byte-past s k d few near packed (omega arith) in Fault.past-end at h (omega arith) (cc)
 
       readable : (v : ℕ) → fieldAt s [] (bits k) d ≡ Got v → Dec (d .bit + bits k ≤ 8 * length s)
           → (d .bit + bits k ≤ 8 * length s → v ≡ bitsAt s (d .bit) (bits k) → Fault s p m (d .bit)) → Fault s p m (d .bit)
-      readable v e (yes l) f = let q = byte-there s short k d few (at .inside) packed l in f l (cc)
+      readable v e (yes l) f = let q = byte-there s k d few near packed l in f l (cc)
       readable v e (no l) f =
-          let q = byte-past s short k d few (at .inside) packed (omega arith) in
+          let q = byte-past s k d few near packed (omega arith) in
           let z : _≡_ {A = ℕ} 0 1 = cc in absurd (omega arith)
 
   -- what a run stops with is the first fault
@@ -77,7 +77,9 @@ module _ {A : Type 0} (s : List ℕ) (p : Grammar A) (short : Short s) where
       let n : d .n ≡ 0 + length fs = ap (λ (c : Walker). c .n) q in
       let i : d .listed ≡ false = ap (λ (c : Walker). c .listed) q in
       let l = trace-room s [] p (start false) refl (omega arith) in
-      byte-fault (x .kind) (x .range) (x .next) d m (omega (arith, led-few (x .led))) i
+      let f = led-few (x .led) in
+      let w = counted fs (ask (x .kind) (x .range) (x .next)) (x .led) (omega arith) in
+      byte-fault (x .kind) (x .range) (x .next) d m (omega arith) (omega arith) i
       (record { fields = fs; led = x .led; stand = trace-reads s [] p (start false) refl; ends = omega arith; inside = omega arith })
       (subst (λ c. Why (source s []) (x .kind) (x .range) c m) (sym q) (x .why))
 
@@ -87,10 +89,14 @@ module _ {A : Type 0} (s : List ℕ) (p : Grammar A) (short : Short s) where
     abbrev end : Walker
     end = after (start false) (at .fields)
 
+    reached-counted : width (at .fields) + 16 < 2 ^ 32
+    reached-counted = let e = at .ends in let i = at .inside in counted (at .fields) q (at .led) (omega arith)
+
     pub reached-gives : Gives (source s []) (start false) (at .fields)
     reached-gives =
         let e = at .ends in
         let i = at .inside in
+        let w = reached-counted in
         let f = led-few (at .led) in
         reads-give s [] (start false) (at .fields) refl
         (narrow-reached (start false) (at .fields) (led-narrow (at .led)) (omega arith) (omega arith)) (at .stand) (omega arith)
@@ -99,10 +105,10 @@ module _ {A : Type 0} (s : List ℕ) (p : Grammar A) (short : Short s) where
     reached-bit = let e = at .ends in omega arith
 
     few : end .n < 2 ^ 32
-    few = let e = at .ends in let i = at .inside in let f = led-few (at .led) in omega arith
+    few = let w = reached-counted in let f = led-few (at .led) in omega arith
 
-    close : end .bit ≤ 8 * length s
-    close = let e = at .ends in let i = at .inside in omega arith
+    near : end .bit + 16 < 2 ^ 32
+    near = let w = reached-counted in omega arith
 
     pub reached-outcome : outcome (source s []) p (start false) ≡ outcome (source s []) q end
     reached-outcome = led-outcome (source s []) (start false) (at .led) reached-gives
@@ -116,7 +122,7 @@ module _ {A : Type 0} (s : List ℕ) (p : Grammar A) (short : Short s) where
         b,
         reached-outcome place at
             ∙ stops-bad (source s []) k r next (end place at) h m
-            (byte-past s short k (end place at) (few place at) (close place at) refl (omega arith) ∙ ap Bad (sym e)),
+            (byte-past s k (end place at) (few place at) (near place at) refl (omega arith) ∙ ap Bad (sym e)),
       )
   fault-stops m place (Fault.outside {k = k} {r = r} {next = next} at h l i e) n =
       let b = reached-bit place at in (
@@ -124,7 +130,7 @@ module _ {A : Type 0} (s : List ℕ) (p : Grammar A) (short : Short s) where
         b,
         reached-outcome place at
             ∙ stops-refused (source s []) k r next (end place at) h (bitsAt s (end place at .bit) (bits k)) m
-            (byte-there s short k (end place at) (few place at) (close place at) refl (omega arith))
+            (byte-there s k (end place at) (few place at) (near place at) refl (omega arith))
             (outside-exactly r (bitsAt s (end place at .bit) (bits k)) .1 (h, subst (λ x. ¬ (InRange r (bitsAt s x (bits k)))) (sym b) i) ∙ ap some (sym e)),
       )
   fault-stops m place (Fault.unnormal {k = k} {r = r} {next = next} at h l i u e) n =
@@ -133,7 +139,7 @@ module _ {A : Type 0} (s : List ℕ) (p : Grammar A) (short : Short s) where
         b,
         reached-outcome place at
             ∙ stops-refused (source s []) k r next (end place at) h (bitsAt s (end place at .bit) (bits k)) m
-            (byte-there s short k (end place at) (few place at) (close place at) refl (omega arith))
+            (byte-there s k (end place at) (few place at) (near place at) refl (omega arith))
             (unnormal-exactly r (bitsAt s (end place at .bit) (bits k)) .1
             (h, subst (λ x. InRange r (bitsAt s x (bits k))) (sym b) i, subst (λ x. Unnormal r (bitsAt s x (bits k))) (sym b) u) ∙ ap some (sym e)),
       )

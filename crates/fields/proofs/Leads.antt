@@ -1,6 +1,6 @@
 -- Where a grammar is led by fields that stand in a source, and why it stops there.
 use Prim.Native.Nat.{ℕ, _^_, _≤_, _<_}
-use mathlib.Core.Path.{_≡_, ap, _∙_, subst}
+use mathlib.Core.Path.{_≡_, sym, ap, _∙_, subst, subst₂}
 use mathlib.Core.List.{List, [], _∷_}
 use mathlib.Core.Option.{none, some}
 use native.Mathlib.Omega.{arith}
@@ -13,6 +13,7 @@ use Rattle.fields.specs.Source.{Source, moved}
 use Rattle.fields.specs.Kinds.{FieldKind, bits, Range, test}
 use Rattle.fields.specs.Grammar.{Grammar, done, ask, look, outcome, trace}
 use Rattle.fields.specs.Grammar.Outcome.{ok, no}
+use Rattle.fields.specs.Spells.{Spells}
 use Rattle.fields.specs.Faults.{Keeps, Led, here, past}
 use Rattle.fields.proofs.Ranges.{passes-exactly, test-look}
 use Rattle.fields.proofs.Spelled.{bits-few}
@@ -47,6 +48,15 @@ module _ {A : Type 0} where
   unfolding width
   led-few here = omega arith
   led-few (past {k = k} h l) = let b = bits-few k .0 in let n = led-few l in omega arith
+
+-- fields that spell a tree lead to it
+pub spells-led : {A : Type 0} (p : Grammar A) (a : A) (fs : List (ℕ × ℕ)) → Spells p a fs → Led p fs (done a)
+unfolding Spells
+spells-led (done b) a fs h = subst₂ (λ x l. Led (done b) l (done x)) (sym (h .0)) (sym (h .1)) here
+spells-led (ask k r next) a [] h = absurd h
+spells-led (ask k r next) a (f ∷ fs) h =
+    subst (λ (w : ℕ). Led (ask k r next) ((w, f .1) ∷ fs) (done a)) (sym (h .0))
+    (past (passes-keeps k r (f .1) (h .1) (h .2)) (spells-led (next (f .1)) a fs (h .3)))
 
 -- ---- from a run to where it was led
 

@@ -1,4 +1,4 @@
--- Every field that the grammars of the two files can ask for is of a kind and a range that 01 states.
+-- Every field that the grammars of the two files and of a call can ask for is of a kind and a range that 01 or 02 states.
 use Prim.Native.Nat.{ℕ, zero, suc, _-_}
 use mathlib.Core.List.{List}
 use lib.Dec.{eqb}
@@ -8,8 +8,9 @@ use Rattle.fields.specs.Grammar.{Grammar, done, bind, field}
 use Rattle.fields.specs.Asks.{Asks}
 use Rattle.fields.proofs.Asking.{asks-bind, asks-cond, asks-field, asks-one, asks-two}
 use Rattle.grammar.specs.Stated.{Stated}
-use Rattle.grammar.specs.Terms.{Grown, a-symbol, a-unary, an-exponent, args-of, a-variable, an-applied, a-raise, a-raised, a-node, a-term, any-term, root-term, a-pair, pairs-of, a-filling}
+use Rattle.grammar.specs.Terms.{Grown, a-symbol, a-unary, an-exponent, args-of, a-variable, an-applied, a-raise, a-raised, a-node, a-term, any-term, root-term, call-term, a-pair, pairs-of, a-filling}
 use Rattle.grammar.specs.Books.{arity-in, arities-of, a-signature, roots-of, a-rule-of, a-rule, rules-of, a-rule-list, a-book}
+use Rattle.grammar.specs.Calls.{a-call}
 use Rattle.grammar.specs.Certificates.{a-right-if, a-right, a-claim, an-index, an-instance, a-use, uses-of, a-last-if, a-last, a-stop, a-stopped, a-stop-at, an-unfold, a-fall, a-descent, a-kind, a-line-of, a-line, lines-of, a-pace, a-closed, a-closing, a-certificate-of, a-certificate}
 
 abbrev AsStated : {A : Type 0} → Grammar A → Type 0
@@ -66,6 +67,10 @@ any-stated ar = term-stated ar 4096 Stated.power-a 256 0 256 256 (λ n. Stated.t
 root-stated : (ar : ℕ → ℕ) → AsStated (root-term ar)
 unfolding root-term
 root-stated ar = term-stated ar 1 Stated.rule-power-a 256 1 256 256 (λ n. Stated.root-tag)
+
+pub call-stated : (ar : ℕ → ℕ) → Asks Stated (a-call ar)
+unfolding a-call call-term
+call-stated ar = one (call-term ar) _ (term-stated ar 1 Stated.rule-power-a 256 0 256 256 (λ n. Stated.tag))
 
 pairs-stated : (ar : ℕ → ℕ) (n least : ℕ) → AsStated (pairs-of ar n least)
 unfolding pairs-of a-pair Asks

@@ -1,17 +1,23 @@
--- The grammars of the two files ask for fewer bits than are counted, 2^32: so for fewer fields, too.
-use Prim.Native.Nat.{ℕ, zero, suc, _+_, _-_, _*_}
+-- The grammars of the two files and of a call ask for fewer bits than are counted, 2^32: so for fewer fields, too.
+use Prim.Native.Nat.{ℕ, zero, suc, _+_, _-_, _*_, _≤_}
 use mathlib.Core.Path.{refl}
 use mathlib.Core.List.{List}
 use native.Mathlib.Omega.{arith}
 use lib.ListN.{getD}
 use lib.Dec.{eqb}
+use Rattle.bits.specs.Packed.{width}
 use Rattle.patterns.specs.Term.{nil}
+use Rattle.patterns.specs.First.{Pattern}
 use Rattle.fields.specs.Kinds.{InRange, Spent}
 use Rattle.fields.specs.Grammar.{Grammar}
+use Rattle.fields.specs.Spells.{Spells}
+use Rattle.fields.proofs.Leads.{spells-led}
+use Rattle.fields.proofs.Faults.{Counted}
 use Rattle.fields.proofs.ListFaults.{Countable}
 use Rattle.fields.proofs.Spends.{Spends, over, spends-more, led-spends, spends-bind, spends-field, spends-either, AtMost, at-most, at-done, at-then, at-made}
-use Rattle.grammar.specs.Terms.{a-symbol, a-unary, an-exponent, Grown, GrownAll, args-of, a-variable, an-applied, a-raise, a-raised, a-node, a-term, any-term, root-term, a-pair, pairs-of, a-filling}
+use Rattle.grammar.specs.Terms.{a-symbol, a-unary, an-exponent, Grown, GrownAll, args-of, a-variable, an-applied, a-raise, a-raised, a-node, a-term, any-term, root-term, call-term, a-pair, pairs-of, a-filling}
 use Rattle.grammar.specs.Books.{arity-in, arities-of, a-signature, roots-of, a-rule-of, a-rule, rules-of, a-rule-list, a-book}
+use Rattle.grammar.specs.Calls.{a-call}
 use Rattle.grammar.specs.Certificates.{a-right-if, a-right, a-claim, an-index, an-instance, a-use, uses-of, a-last-if, a-last, a-stop, a-stopped, a-stop-at, an-unfold, a-fall, a-descent, a-kind, a-line-of, a-line, lines-of, a-pace, a-closed, a-closing, a-certificate-of, a-certificate}
 
 -- ---- terms: 34 bits for each node that is allowed
@@ -106,6 +112,10 @@ any-few ar = at-most (term-spends 256 ar 4096 0 256 256)
 root-few : (ar : ℕ → ℕ) → AtMost term-bits (root-term ar)
 unfolding root-term
 root-few ar = at-most (term-spends 256 ar 1 1 256 256)
+
+call-few : (ar : ℕ → ℕ) → AtMost term-bits (a-call ar)
+unfolding a-call call-term
+call-few ar = at-made _ _ (at-most (term-spends 256 ar 1 0 256 256))
 
 pair-few : (ar : ℕ → ℕ) (least : ℕ) → AtMost pair-bits (a-pair ar least)
 unfolding a-pair
@@ -263,3 +273,11 @@ book-countable fs q l = let w = led-spends l book-few in omega arith
 
 pub certificate-countable : (ar : ℕ → ℕ) (ms : List ℕ) → Countable (a-certificate ar ms)
 certificate-countable ar ms fs q l = let w = led-spends l (certificate-few ar ms) in omega arith
+
+-- ---- a call has at most 8,704 bits
+
+pub call-counted : (ar : ℕ → ℕ) (s : List ℕ) → Counted s (a-call ar)
+call-counted ar s fs q l h = let w = led-spends l (call-few ar) in omega arith
+
+pub call-narrow : (ar : ℕ → ℕ) (t : Pattern) (fs : List (ℕ × ℕ)) → Spells (a-call ar) t fs → width fs ≤ 8704
+call-narrow ar t fs h = led-spends (spells-led (a-call ar) t fs h) (call-few ar)

@@ -1,15 +1,17 @@
--- Books and certificates within the limits and the fields that spell them correspond one to one.
+-- Books, certificates and calls within the limits and the fields that spell them correspond one to one.
 use mathlib.Core.Path.{_≡_}
-use Rattle.patterns.specs.First.{Exp, Pair, Pace}
+use Rattle.patterns.specs.First.{Exp, Pattern, Pair, Pace}
 use Rattle.patterns.specs.Certificate.{Certificate}
 use Rattle.fields.specs.Grammar.{Grammar}
 use Rattle.fields.specs.Spells.{Spells}
 use Rattle.grammar.specs.Books.{RuleBook, arity-in, a-book}
 use Rattle.grammar.specs.Certificates.{a-certificate}
-use Rattle.grammar.specs.Limits.{BookFits, call-counts, CertificateFits}
-use Rattle.grammar.specs.Listing.{Fields, book-fields, certificate-fields}
+use Rattle.grammar.specs.Calls.{a-call}
+use Rattle.grammar.specs.Limits.{TermFits, BookFits, call-counts, CertificateFits}
+use Rattle.grammar.specs.Listing.{Fields, term-fields, book-fields, certificate-fields}
 use Rattle.grammar.proofs.Exactness.{only-fields, only-tree}
-use Rattle.grammar.proofs.BookFields.{a-book-exactly}
+use Rattle.grammar.proofs.TermFields.{a-call-exactly}
+use Rattle.grammar.proofs.BookFields.{a-book-exactly, book-signature}
 use Rattle.grammar.proofs.CertificateFields.{a-certificate-exactly}
 
 -- ---- books
@@ -53,3 +55,20 @@ module _ (b : RuleBook) (fits : BookFits b) where
       → certificate-fields K ≡ certificate-fields L
       → K ≡ L
   certificate-fields-tell K L = only-tree (a-certificate-exactly b fits) K L
+
+  -- ---- calls, each over its book
+
+  pub spelled-call-fits : (t : Pattern) (fs : Fields) → Spells (a-call (arity-in (b .arities))) t fs → TermFits (b .arities) 1 t
+  spelled-call-fits t fs s = a-call-exactly (b .arities) (book-signature b fits) .forth t fs s .0
+
+  pub call-spelled : (t : Pattern) → TermFits (b .arities) 1 t → Spells (a-call (arity-in (b .arities))) t (term-fields t)
+  call-spelled t h = a-call-exactly (b .arities) (book-signature b fits) .back t h
+
+  pub call-has-one-listing : (t : Pattern) (fs gs : Fields) → Spells (a-call (arity-in (b .arities))) t fs
+      → Spells (a-call (arity-in (b .arities))) t gs
+      → fs ≡ gs
+  call-has-one-listing t fs gs = only-fields (a-call-exactly (b .arities) (book-signature b fits)) t fs gs
+
+  pub call-fields-tell : (t u : Pattern) → TermFits (b .arities) 1 t → TermFits (b .arities) 1 u → term-fields t ≡ term-fields u
+      → t ≡ u
+  call-fields-tell t u = only-tree (a-call-exactly (b .arities) (book-signature b fits)) t u

@@ -15,7 +15,8 @@ use Rattle.fields.specs.Kinds.{FieldKind as kind}
 use Rattle.fields.proofs.Ranges.{passes-exactly}
 use Rattle.fields.specs.Grammar.{Grammar, bind, field}
 use Rattle.fields.specs.Spells.{Spells}
-use Rattle.grammar.specs.Terms.{Grown, GrownAll, args-of, a-variable, an-applied, a-raised, a-node, a-term, any-term, root-term}
+use Rattle.grammar.specs.Terms.{Grown, GrownAll, args-of, a-variable, an-applied, a-raised, a-node, a-term, any-term, root-term, call-term}
+use Rattle.grammar.specs.Calls.{a-call}
 use Rattle.grammar.specs.Books.{arity-in}
 use Rattle.grammar.specs.Limits.{Ranged, TermFits, RootFits}
 use Rattle.grammar.specs.Listing.{Fields, term-fields, terms-fields}
@@ -227,14 +228,23 @@ module _ (arities : List ℕ) (sig : Signature arities) (end : ℕ) (low : end �
       (omega arith))
 
 module _ (arities : List ℕ) (sig : Signature arities) where
+  -- a term of at most 256 nodes, its root of any kind
+  free-exactly : (end : ℕ) → end ≤ 4096
+      → Exactly (pattern-of (a-term 256 (arity-in arities) end 0 256 256)) (TermFits arities end) term-fields
+  free-exactly end low =
+      made
+      (term-exactly arities sig end low 256 0 256 256 (omega arith))
+      (λ g. g .term)
+      (λ g h. (grown-fits arities end g (h .0), refl))
+      (λ t h. (grown t (256 - size t), (fits-grown arities end t (sig .count) h, omega arith), refl))
+
   pub any-exactly : Exactly (pattern-of (any-term (arity-in arities))) (TermFits arities 4096) term-fields
   unfolding any-term
-  any-exactly =
-      made
-      (term-exactly arities sig 4096 (omega arith) 256 0 256 256 (omega arith))
-      (λ g. g .term)
-      (λ g h. (grown-fits arities 4096 g (h .0), refl))
-      (λ t h. (grown t (256 - size t), (fits-grown arities 4096 t (sig .count) h, omega arith), refl))
+  any-exactly = free-exactly 4096 (omega arith)
+
+  pub a-call-exactly : Exactly (a-call (arity-in arities)) (TermFits arities 1) term-fields
+  unfolding a-call call-term
+  a-call-exactly = free-exactly 1 (omega arith)
 
   pub root-exactly : Exactly (pattern-of (root-term (arity-in arities))) (RootFits arities) term-fields
   unfolding root-term

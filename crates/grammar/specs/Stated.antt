@@ -1,4 +1,4 @@
--- 01's "Packed layout" as a table: the range that is stated for each kind of field. What a range is refused with, and when, is told by
+-- 01's "Packed layout", and 02's call, as a table: the range that is stated for each kind of field. What a range is refused with, and when, is told by
 -- `InRange` (4), `Unnormal` (5) and `Spent` (6) in `fields/specs/Kinds`; 3 can be given at every field.
 use Prim.Native.Nat.{ℕ, _+_, _-_, min}
 use mathlib.Core.List.{List}
@@ -20,7 +20,7 @@ pub data Stated : FieldKind → Range → Type 0 where
   symbol : {ar : ℕ → ℕ} → Stated kind.symbol (applied ar)
   power-symbol : {ar : ℕ → ℕ} {above : ℕ} → Stated kind.power-symbol (unary ar above)
   power-a : Stated kind.power-a (from-to 0 4096)
-  -- in rules: "Powers have a = 0."
+  -- in rules: "Powers have a = 0."; in a call (02, Ticket 1): "a above 0 is 4"
   rule-power-a : Stated kind.power-a (from-to 0 1)
   power-b : {a : ℕ} → Stated kind.power-b (beside a)
   -- "Certificate: line count 8"; "Line: kind 1 bit [..]; a bit that says whether a right term follows"

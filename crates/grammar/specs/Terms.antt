@@ -11,7 +11,7 @@ use Rattle.fields.specs.Kinds.{FieldKind as kind}
 use Rattle.fields.specs.Grammar.{Grammar, done, bind, field}
 
 -- `ar f` is the arity of the symbol f, 16 where there is no such symbol.
--- `end` bounds a: it is 1 in rules, where a = 0, and 4,096 elsewhere. `above` is the symbol of the power directly above, 256 if none.
+-- `end` bounds a: it is 1 in rules and in a call, where a = 0, and 4,096 elsewhere. `above` is the symbol of the power directly above, 256 if none.
 
 -- 01: "Tag 1: symbol, 8 bits, arity not 1."
 unfoldable pub a-symbol : (ℕ → ℕ) → Grammar ℕ
@@ -78,6 +78,10 @@ any-term ar = a-term 256 ar 4096 0 256 256
 -- 01, of heads and calls: "Roots may not be variables (4 at the tag). Powers have a = 0."
 unfoldable pub root-term : (ℕ → ℕ) → Grammar Grown
 root-term ar = a-term 256 ar 1 1 256 256
+
+-- 02, Ticket 1: "one packed call without index", "where a above 0 is 4"
+unfoldable pub call-term : (ℕ → ℕ) → Grammar Grown
+call-term ar = a-term 256 ar 1 0 256 256
 
 -- 01: "Filling: count 7 (0 to 64), then variable 6, strictly rising, and a term."
 unfoldable pub a-pair : (ℕ → ℕ) → ℕ → Grammar (ℕ × Pattern)

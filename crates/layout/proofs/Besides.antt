@@ -1,4 +1,4 @@
--- A certificate beside its book: the arities that are looked up in the book's bytes, and the calls that were noted.
+-- A certificate or a call beside its book: the arities that are looked up in the book's bytes, and the calls that were noted.
 use Prim.Native.Nat.{ℕ, _<_}
 use mathlib.Core.Path.{_≡_, sym, _∙_, ap, subst, fun-ext}
 use mathlib.Core.List.{List, []}
@@ -15,6 +15,7 @@ use Rattle.fields.specs.Run.{Ran}
 use Rattle.fields.proofs.Binds.{bind-parts}
 use Rattle.fields.proofs.Sinks.{run-ok}
 use Rattle.grammar.specs.Books.{RuleBook, arity-in, a-signature, a-rule-list, a-book}
+use Rattle.grammar.specs.Calls.{a-call}
 use Rattle.grammar.specs.Certificates.{a-certificate}
 use Rattle.grammar.specs.Limits.{call-counts}
 use Rattle.terms.proofs.Arities.{in-bytes-only}
@@ -23,7 +24,7 @@ use Rattle.terms.specs.Values.{nothing}
 use Rattle.books.proofs.Lookup.{arity-known}
 use Rattle.layout.specs.declared.Opening.{Opening}
 use Rattle.layout.specs.declared.Opening.the-variants.{Open}
-use Rattle.layout.specs.Files.{certificate-of, open-book}
+use Rattle.layout.specs.Files.{good, certificate-of, open-book}
 use Rattle.layout.specs.Openings.{BookOpened, Beside}
 use Rattle.layout.proofs.Answering.{opening-good}
 use Rattle.layout.proofs.Opens.{in-bytes, book-fits}
@@ -59,12 +60,22 @@ book-arities s b d e =
         → record { arities = ars; rules = rs } ≡ b
     same ars q = cc
 
+module _ (book l : List ℕ) {b : RuleBook} {fs : List (ℕ × ℕ)} (opened : open-book book ≡ good b fs) where
+  opened-arities : (λ f. arityAt book l false f) ≡ arity-in (b .arities)
+  unfolding open-book
+  opened-arities =
+      let x = in-bytes book-place a-book book opened in
+      fun-ext (in-bytes-only book l) ∙ book-arities book b (x .end) (x .found)
+
+  -- so the code walks the call's own grammar
+  pub call-ran : {src : Source} {c : Walker} {ws bs ws₁ bs₁ : List ℕ} {r : Walk}
+      → Ran src (a-call (λ f. arityAt book l false f)) c ws bs nothing r ws₁ bs₁
+      → Ran src (a-call (arity-in (b .arities))) c ws bs nothing r ws₁ bs₁
+  call-ran {src} {c} {ws} {bs} {ws₁} {bs₁} {r} k = subst (λ ar. Ran src (a-call ar) c ws bs nothing r ws₁ bs₁) opened-arities k
+
 module _ (book l counts : List ℕ) (h : Beside book counts) where
   pub arities-known : (λ f. arityAt book l false f) ≡ arity-in (h .tree .arities)
-  unfolding open-book
-  arities-known =
-      let x = in-bytes book-place a-book book (h .opened) in
-      fun-ext (in-bytes-only book l) ∙ book-arities book (h .tree) (x .end) (x .found)
+  arities-known = opened-arities book l (h .opened)
 
   pub few-counts : length counts < 256
   unfolding call-counts
@@ -73,7 +84,7 @@ module _ (book l counts : List ℕ) (h : Beside book counts) where
       let e : length (call-counts (h .tree .rules)) ≡ length (h .tree .rules) = length-map (h .tree .rules) _ in
       rw (h .counted) (omega arith)
 
-  -- so the code walks the certificate's own grammar
+  -- and the certificate's
   pub beside-ran : {src : Source} {c : Walker} {ws bs ws₁ bs₁ : List ℕ} {r : Walk}
       → Ran src (a-certificate (λ f. arityAt book l false f) counts) c ws bs nothing r ws₁ bs₁
       → Ran src (certificate-of (h .tree)) c ws bs nothing r ws₁ bs₁

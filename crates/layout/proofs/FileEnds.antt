@@ -1,5 +1,5 @@
 -- How the end of a file is looked at, and what a walk over a whole file comes to.
-use Prim.Native.Nat.{ℕ, _+_, _-_, _*_, _/_, _≤_}
+use Prim.Native.Nat.{ℕ, _+_, _-_, _*_, _/_, _^_, _≤_}
 use mathlib.Core.Path.{_≡_, refl, sym, _∙_, ap, ap₂, subst}
 use mathlib.Core.List.{List, []}
 use mathlib.Core.Bool.{Bool, true, false, cond}
@@ -41,19 +41,19 @@ module _ (s : List ℕ) (bit : ℕ) where
   ends-long h = rw (ne-eqb (length s) (bytesFor bit) h)
 
   pub ends-read : length s ≡ (bit + 7) / 8 → {v : ℕ} {c : Rattle.bits.specs.declared.Cursor.Cursor} {f : Bits}
-      → length s ≤ 32768 → bit ≤ 8 * length s → f ≡ readField s (8 * length s - bit) bit → f ≡ Got v c
+      → bit ≤ 2 ^ 32 → bit ≤ 8 * length s → f ≡ readField s (8 * length s - bit) bit → f ≡ Got v c
       → ends-at s bit ≡ eqb v 0
   unfolding ends-at
-  ends-read h {v} {c} small inside g e =
+  ends-read h {v} {c} near inside g e =
       let w : 8 * length s - bit ≤ 16 = omega arith in
       let r : bit + (8 * length s - bit) ≤ roomOf s = omega arith in
       let p = sym (read-yes s (8 * length s - bit) bit w r) ∙ sym g ∙ e in
       let q : bitsAt s bit (8 * length s - bit) ≡ v = cc p in
       rw (eq-eqb (length s) (bytesFor bit) h, q)
 
-  pub ends-past : length s ≡ (bit + 7) / 8 → {f : Bits} → length s ≤ 32768 → bit ≤ 8 * length s
+  pub ends-past : length s ≡ (bit + 7) / 8 → {f : Bits} → bit ≤ 2 ^ 32 → bit ≤ 8 * length s
       → f ≡ readField s (8 * length s - bit) bit → f ≡ Past → ends-at s bit ≡ false
-  ends-past h small inside g e =
+  ends-past h near inside g e =
       let w : 8 * length s - bit ≤ 16 = omega arith in
       let r : bit + (8 * length s - bit) ≤ roomOf s = omega arith in
       let p = sym (read-yes s (8 * length s - bit) bit w r) ∙ sym g ∙ e in
@@ -111,13 +111,15 @@ at-end val w place false a d fs e g = refl
 -- over bytes
 module _ {A : Type 0} (s : List ℕ) (p : Grammar A) {ws bs ws₁ bs₁ : List ℕ} (val : A → ℕ) {r : Walk}
     (h : Ran (source s []) p (start false) ws bs val r ws₁ bs₁) where
-  pub inside-bytes : walked-bits r ≤ 8 * length s
+  -- a walk ends within the bytes, and within the first 2 ^ 32 bits
+  pub inside-bytes : (walked-bits r ≤ 2 ^ 32) × (walked-bits r ≤ 8 * length s)
   unfolding walked-bits walk-of
   inside-bytes = rw (walk-is s [] h) (go (outcome (source s []) p (start false)) refl)
     where
-      go : (o : Outcome A) → outcome (source s []) p (start false) ≡ o → walked-bits (walk-of val o) ≤ 8 * length s
-      go (ok a d) e = let k = end-room s [] p (start false) e refl (omega arith) in omega arith
-      go (no m d) e = omega arith
+      go : (o : Outcome A) → outcome (source s []) p (start false) ≡ o
+          → (walked-bits (walk-of val o) ≤ 2 ^ 32) × (walked-bits (walk-of val o) ≤ 8 * length s)
+      go (ok a d) e = let k = end-room s [] p (start false) e refl (omega arith) in (omega arith, omega arith)
+      go (no m d) e = (omega arith, omega arith)
 
   pub bytes-seen : (w : ℕ) → seen-bytes w s r ≡ seen val (open-bytes w p s)
   unfolding seen-bytes seen open-bytes walk-of

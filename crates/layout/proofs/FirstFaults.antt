@@ -12,7 +12,7 @@ use lib.Dec.{eqb}
 use Rattle.answers.specs.Carried.{refusal-at}
 use Rattle.bits.specs.Bits.{Bytes}
 use Rattle.bits.specs.Packed.{width, packed}
-use Rattle.patterns.specs.Reason.{Reason, book-place, certificate-place}
+use Rattle.patterns.specs.Reason.{Reason, book-place, certificate-place, call-place}
 use Rattle.fields.specs.declared.Walker.{Walker}
 use Rattle.fields.specs.Source.{source, start}
 use Rattle.fields.specs.Grammar.{Grammar, done, Outcome, outcome, trace}
@@ -21,17 +21,18 @@ use Rattle.fields.proofs.Ways.{way-to}
 use Rattle.fields.proofs.Binds.{after, end-ok}
 use Rattle.fields.proofs.Reading.{Reading, trace-sized, trace-reads, trace-room, trace-listed, trace-within}
 use Rattle.fields.proofs.Leads.{way-leads, led-trace}
-use Rattle.fields.proofs.Faults.{Short, stopped-fault, fault-stops, reached-gives, reached-outcome}
+use Rattle.fields.proofs.Faults.{Counted, stopped-fault, fault-stops, reached-gives, reached-outcome}
 use Rattle.fields.proofs.ListFaults.{Countable, stopped-list-fault, list-fault-stops, listed-outcome}
-use Rattle.grammar.specs.Books.{RuleBook, a-book}
-use Rattle.grammar.proofs.FewFields.{book-countable, certificate-countable}
-use Rattle.layout.specs.Files.{good, bad, ends-at, closed-bytes, open-bytes, closed-list, open-list, certificate-of}
+use Rattle.grammar.specs.Books.{RuleBook, arity-in, a-book}
+use Rattle.grammar.specs.Calls.{a-call}
+use Rattle.grammar.proofs.FewFields.{book-countable, certificate-countable, call-counted}
+use Rattle.layout.specs.Files.{good, bad, ends-at, closed-bytes, open-bytes, closed-list, open-list, certificate-of, open-call}
 use Rattle.layout.specs.FirstFaults.{Faulty}
 use Rattle.layout.proofs.RoundTrips.{bytes-packed, packed-opens}
 
 -- ---- bytes
 
-module _ {A : Type 0} (w : ℕ) (p : Grammar A) (s : List ℕ) (short : Short s) where
+module _ {A : Type 0} (w : ℕ) (p : Grammar A) (s : List ℕ) (counted : Counted s p) where
   unclosed : (a : A) (d : Walker) → outcome (source s []) p (start false) ≡ Outcome.ok a d → ends-at s (d .bit) ≡ false
       → open-bytes w p s ≡ bad (refusal-at 7 w (d .bit))
   unfolding open-bytes
@@ -76,7 +77,7 @@ module _ {A : Type 0} (w : ℕ) (p : Grammar A) (s : List ℕ) (short : Short s)
       go : (o : Outcome A) → outcome (source s []) p (start false) ≡ o → closed-bytes w s o (trace (source s []) p (start false)) ≡ bad r
           → Faulty (Fault s p) w r
       go (Outcome.ok a d) e q = under a d e (ends-at s (d .bit)) refl q
-      go (Outcome.no m d) e q = record { number = m; place = d .bit; why = stopped-fault s p short e; told = cc q }
+      go (Outcome.no m d) e q = record { number = m; place = d .bit; why = stopped-fault s p counted e; told = cc q }
 
   pub fault-refused : Bytes s → (m place : ℕ) → Fault s p m place → open-bytes w p s ≡ bad (refusal-at m w place)
   unfolding open-bytes
@@ -86,11 +87,11 @@ module _ {A : Type 0} (w : ℕ) (p : Grammar A) (s : List ℕ) (short : Short s)
       padded {a} at h e = under (ends-at s (after (start false) (at .fields) .bit)) refl
         where
           opens : outcome (source s []) p (start false) ≡ Outcome.ok a (after (start false) (at .fields))
-          opens = reached-outcome s p short place at ∙ unfold outcome in refl
+          opens = reached-outcome s p counted place at ∙ unfold outcome in refl
 
           under : (b : Bool) → ends-at s (after (start false) (at .fields) .bit) ≡ b → open-bytes w p s ≡ bad (refusal-at m w place)
           under true f =
-              let t = led-trace (source s []) (start false) (at .led) (reached-gives s p short place at) (unfold trace in refl) in
+              let t = led-trace (source s []) (start false) (at .led) (reached-gives s p counted place at) (unfold trace in refl) in
               let g : open-bytes w p s ≡ good a (at .fields) = rw (opens, f, t) in
               absurd (h (bytes-packed w w p s bytes g))
           under false f =
@@ -104,7 +105,7 @@ module _ {A : Type 0} (w : ℕ) (p : Grammar A) (s : List ℕ) (short : Short s)
       go (yes e) (Fault.outside at h l i q) = absurd (omega arith)
       go (yes e) (Fault.unnormal at h l i u q) = absurd (omega arith)
       go (yes e) (Fault.too-many at h q) = absurd (omega arith)
-      go (no n) g = let x = fault-stops s p short m place g n in rw (x .2, x .1)
+      go (no n) g = let x = fault-stops s p counted m place g n in rw (x .2, x .1)
 
 -- ---- a list of fields
 
@@ -163,13 +164,25 @@ module _ {A : Type 0} (w : ℕ) (p : Grammar A) (short : Countable p) (l : List 
 
 -- ---- both ways
 
--- a file in bytes is refused exactly with its first fault
+-- a file in bytes, in which the places that are reached can be counted, is refused exactly with its first fault
+counted-first-fault : {A : Type 0} (w : ℕ) (p : Grammar A) (s : List ℕ) → Bytes s → Counted s p
+    → (r : Reason) → (open-bytes w p s ≡ bad r) ↔ Faulty (Fault s p) w r
+counted-first-fault w p s bytes counted r = (
+  bytes-refused w p s counted r,
+  λ f. fault-refused w p s counted bytes (f .number) (f .place) (f .why) ∙ ap bad (sym (f .told)),
+)
+
+-- in a file that is not too long they can be counted,
 pub bytes-first-fault : {A : Type 0} (w : ℕ) (p : Grammar A) (s : List ℕ) → Bytes s → length s ≤ 32768
     → (r : Reason) → (open-bytes w p s ≡ bad r) ↔ Faulty (Fault s p) w r
-bytes-first-fault w p s bytes n r = (
-  bytes-refused w p s (omega arith) r,
-  λ f. fault-refused w p s (omega arith) bytes (f .number) (f .place) (f .why) ∙ ap bad (sym (f .told)),
-)
+bytes-first-fault w p s bytes n = counted-first-fault w p s bytes (λ fs q l h. omega arith)
+
+-- and in a call of any length
+pub call-first-fault : (b : RuleBook) (s : List ℕ) → Bytes s
+    → (r : Reason) → (open-call b s ≡ bad r) ↔ Faulty (Fault s (a-call (arity-in (b .arities)))) call-place r
+unfolding open-call
+call-first-fault b s bytes =
+    counted-first-fault call-place (a-call (arity-in (b .arities))) s bytes (call-counted (arity-in (b .arities)) s)
 
 -- so is a list of fields, however long, by a grammar whose bits can be counted
 pub list-first-fault : {A : Type 0} (w : ℕ) (p : Grammar A) → Countable p → (l : List ℕ) (r : Reason)

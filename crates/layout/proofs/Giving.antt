@@ -18,19 +18,21 @@ use Rattle.fields.specs.Grammar.{Grammar}
 use Rattle.fields.specs.Run.{Ran}
 use Rattle.fields.proofs.Sinks.{values, sets, puts, sets-first, puts-first}
 use Rattle.fields.proofs.Reading.{trace-narrow}
+use Rattle.grammar.specs.Books.{arity-in}
+use Rattle.grammar.specs.Calls.{a-call}
 use Rattle.grammar.specs.Certificates.{a-certificate}
 use Rattle.terms.specs.Arity.{arityAt}
 use Rattle.terms.specs.Values.{nothing}
-use Rattle.layout.specs.Files.{within-length, where-good, Opened, good, bad, open-bytes, open-list, certificate-of, open-book, open-certificate}
+use Rattle.layout.specs.Files.{within-length, where-good, Opened, good, bad, open-bytes, open-list, certificate-of, open-book, open-certificate, open-call}
 use Rattle.layout.specs.declared.Opening.{Opening}
 use Rattle.answers.specs.declared.W.{W}
-use Rattle.answers.specs.declared.W.the-variants.{Certificate}
-use Rattle.layout.specs.Openings.{sight, seen, seen-bytes, seen-list, CertificateOpened, Beside}
+use Rattle.answers.specs.declared.W.the-variants.{Certificate, Call}
+use Rattle.layout.specs.Openings.{sight, seen, seen-bytes, seen-list, CertificateOpened, CallOpened, Beside}
 use Rattle.layout.specs.Answers.{Given, gives, refuses, listed, packed-given, reading-book, listing-beside, writing-beside, reading-certificate, writing-certificate}
 use Rattle.layout.proofs.FileEnds.{words-after, bytes-after, bytes-seen, list-seen}
 use Rattle.layout.proofs.Answering.{GoodFile}
 use Rattle.layout.proofs.Opens.{InBytes, InList}
-use Rattle.layout.proofs.Besides.{beside-ran}
+use Rattle.layout.proofs.Besides.{call-ran, beside-ran}
 
 -- ---- too long, or not
 
@@ -109,6 +111,16 @@ pub bytes-told : {A : Type 0} (s : List ℕ) (p : Grammar A) (val : A → ℕ) {
     → Ran (source s []) p (start false) ws bs val w ws₁ bs₁ → sight o ≡ seen-bytes (w-of place) s w
     → sight o ≡ seen val (open-bytes (w-of place) p s)
 bytes-told s p val o place h e = e ∙ bytes-seen s p val h (w-of place)
+
+-- ---- a call beside its book: the walk over it
+
+pub call-opened : (book : List ℕ) {s ws bs ws₁ bs₁ : List ℕ} {x : Walk} (o : Opening)
+    → Ran (source s []) (a-call (λ f. arityAt book [] false f)) (start false) ws bs nothing x ws₁ bs₁
+    → sight o ≡ seen-bytes (w-of Call) s x → CallOpened book s o
+unfolding open-call w-of
+call-opened book {s} o k e = record {
+  told = λ b fs q. bytes-told s (a-call (arity-in (b .arities))) nothing o Call (call-ran book [] q k) e;
+}
 
 -- ---- a certificate beside its book
 

@@ -1,5 +1,6 @@
 -- Files that keep the layout and trees within the limits correspond one to one.
 use Prim.Native.Nat.{ℕ, _≤_}
+use mathlib.Core.Logic.{_↔_}
 use mathlib.Core.Path.{_≡_, refl, sym, _∙_, ap, subst}
 use mathlib.Core.List.{List, [], append-nil}
 use mathlib.Core.Bool.{false}
@@ -9,19 +10,22 @@ use Rattle.fields.specs.Source.{start}
 use Rattle.bits.specs.Bits.{Bytes}
 use Rattle.bits.specs.Packed.{packed, Reads}
 use Rattle.bits.proofs.PackedFields.{length-packed, packed-reads}
-use Rattle.patterns.specs.Reason.{book-place, certificate-place}
-use Rattle.patterns.specs.First.{Exp, Pair, Pace}
+use Rattle.patterns.specs.Reason.{book-place, certificate-place, call-place}
+use Rattle.patterns.specs.First.{Exp, Pattern, Pair, Pace}
 use Rattle.patterns.specs.Certificate.{Certificate}
 use Rattle.fields.specs.Grammar.{Grammar}
 use Rattle.fields.specs.Spells.{Spells}
 use Rattle.fields.proofs.Spelled.{spells-sized, spells-narrow, spells-few}
 use Rattle.fields.proofs.Reading.{trace-spells, bytes-found}
-use Rattle.grammar.specs.Books.{RuleBook, a-book}
-use Rattle.grammar.specs.Limits.{BookFits, CertificateFits}
-use Rattle.grammar.specs.Listing.{book-fields, certificate-fields}
+use Rattle.grammar.specs.Books.{RuleBook, arity-in, a-book}
+use Rattle.grammar.specs.Calls.{a-call}
+use Rattle.grammar.specs.Limits.{TermFits, BookFits, CertificateFits}
+use Rattle.grammar.specs.Listing.{term-fields, book-fields, certificate-fields}
+use Rattle.grammar.proofs.FewFields.{call-narrow}
+use Rattle.grammar.proofs.OneToOne.{spelled-call-fits, call-spelled, call-has-one-listing}
 use Rattle.grammar.proofs.BookFields.{book-exactly}
 use Rattle.grammar.proofs.CertificateFields.{certificate-exactly}
-use Rattle.layout.specs.Files.{good, open-bytes, certificate-of, open-book, open-certificate}
+use Rattle.layout.specs.Files.{good, open-bytes, certificate-of, open-book, open-certificate, open-call}
 use Rattle.layout.proofs.Opens.{in-bytes}
 use Rattle.layout.proofs.RoundTrips.{bytes-packed, packed-opens}
 
@@ -90,3 +94,37 @@ module _ (b : RuleBook) (fits : BookFits b) where
       bytes-packed certificate-place certificate-place (certificate-of b) s x e
       ∙ ap packed ((certificate-file-fits s K fs (unfold open-certificate in e)) .1 ∙ sym ((certificate-file-fits t K gs (unfold open-certificate in f)) .1))
       ∙ sym (bytes-packed certificate-place certificate-place (certificate-of b) t y f)
+
+  -- ---- calls, of any length
+
+  pub call-file-fits : (s : List ℕ) (t : Pattern) (fs : List (ℕ × ℕ)) → open-call b s ≡ good t fs
+      → TermFits (b .arities) 1 t × (fs ≡ term-fields t)
+  unfolding open-call
+  call-file-fits s t fs e =
+      let h = opened-spells call-place (a-call (arity-in (b .arities))) s e in
+      let f = spelled-call-fits b fits t fs h in
+      (f, call-has-one-listing b fits t fs (term-fields t) h (call-spelled b fits t f))
+
+  pub call-has-a-file : (t : Pattern) → TermFits (b .arities) 1 t → open-call b (packed (term-fields t)) ≡ good t (term-fields t)
+  unfolding open-call
+  call-has-a-file t h =
+      let s = call-spelled b fits t h in
+      let k = length-packed (term-fields t) in
+      let n = call-narrow (arity-in (b .arities)) t (term-fields t) s in
+      spelled-opens call-place (a-call (arity-in (b .arities))) t (term-fields t) s (omega arith)
+
+  call-packed : (s : List ℕ) → Bytes s → {t : Pattern} {fs : List (ℕ × ℕ)} → open-call b s ≡ good t fs → s ≡ packed fs
+  unfolding open-call
+  call-packed s bytes e = bytes-packed call-place call-place (a-call (arity-in (b .arities))) s bytes e
+
+  -- a good call is just the packed fields of a term within the limits
+  pub call-exactly : (s : List ℕ) → Bytes s → (t : Pattern) (fs : List (ℕ × ℕ))
+      → (open-call b s ≡ good t fs) ↔ (TermFits (b .arities) 1 t × (s ≡ packed (term-fields t)) × (fs ≡ term-fields t))
+  call-exactly s bytes t fs = (
+    λ e. let f = call-file-fits s t fs e in (f .0, call-packed s bytes e ∙ ap packed (f .1), f .1),
+    λ h. rw (h .1, h .2) (call-has-a-file t (h .0)),
+  )
+
+  pub one-call-file : (s t : List ℕ) → Bytes s → Bytes t → (c : Pattern) (fs gs : List (ℕ × ℕ))
+      → open-call b s ≡ good c fs → open-call b t ≡ good c gs → s ≡ t
+  one-call-file s t x y c fs gs e f = call-exactly s x c fs .0 e .1 ∙ sym (call-exactly t y c gs .0 f .1)

@@ -6,14 +6,15 @@ use lib.ListN.{length}
 use lib.Dec.{eqb, ltb}
 use Rattle.bits.specs.Bits.{bitsAt}
 use Rattle.bits.specs.Packed.{bytesFor}
-use Rattle.patterns.specs.Reason.{Reason, book-place, certificate-place}
-use Rattle.patterns.specs.First.{Exp, Pair, Pace}
+use Rattle.patterns.specs.Reason.{Reason, book-place, certificate-place, call-place}
+use Rattle.patterns.specs.First.{Exp, Pattern, Pair, Pace}
 use Rattle.patterns.specs.Certificate.{Certificate}
 use Rattle.answers.specs.Carried.{refusal-at}
 use Rattle.fields.specs.Source.{source, start}
 use Rattle.fields.specs.Grammar.{Grammar, Outcome, outcome, trace}
 use Rattle.fields.specs.Grammar.Outcome.{ok, no}
 use Rattle.grammar.specs.Books.{RuleBook, arity-in, a-book}
+use Rattle.grammar.specs.Calls.{a-call}
 use Rattle.grammar.specs.Certificates.{a-certificate}
 use Rattle.grammar.specs.Limits.{call-counts}
 
@@ -51,6 +52,10 @@ open-book s = open-bytes book-place a-book s
 
 unfoldable pub open-certificate : RuleBook → List ℕ → Opened (Certificate Exp Pair Pace)
 open-certificate b s = open-bytes certificate-place (certificate-of b) s
+
+-- 02, Ticket 1: "one packed call without index (padded as a file)"; "3 to 7 for the call, with W = 5"
+unfoldable pub open-call : RuleBook → List ℕ → Opened Pattern
+open-call b s = open-bytes call-place (a-call (arity-in (b .arities))) s
 
 -- ---- what is given of a file, where `refuse` says how a refusal is given
 

@@ -16,7 +16,7 @@ use Rattle.grammar.specs.Limits.{call-counts}
 use Rattle.terms.specs.Values.{nothing}
 use Rattle.layout.specs.declared.Opening.{Opening}
 use Rattle.layout.specs.declared.Opening.the-variants.{Open, Shut}
-use Rattle.layout.specs.Files.{Opened, good, bad, ends-at, open-book, open-certificate}
+use Rattle.layout.specs.Files.{Opened, good, bad, ends-at, open-book, open-certificate, open-call}
 
 -- a number, the fields and the bits of a good file; or the refusal
 pub data Sight : Type 0 where
@@ -40,6 +40,10 @@ pub record BookOpened (s : List ℕ) (r : Opening) (counts : List ℕ) : Type 0 
 -- the certificate beside a good book was opened
 pub record CertificateOpened (book s : List ℕ) (r : Opening) : Type 0 where
   pub told : (b : RuleBook) (fs : List (ℕ × ℕ)) → open-book book ≡ good b fs → sight r ≡ seen nothing (open-certificate b s)
+
+-- the call beside a good book was opened
+pub record CallOpened (book s : List ℕ) (r : Opening) : Type 0 where
+  pub told : (b : RuleBook) (fs : List (ℕ × ℕ)) → open-book book ≡ good b fs → sight r ≡ seen nothing (open-call b s)
 
 -- what a walk over bytes, or over a list, comes to once its end is looked at
 unfoldable pub seen-bytes : ℕ → List ℕ → Walk → Sight

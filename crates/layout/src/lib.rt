@@ -1,16 +1,23 @@
-// The two packed files: reading and writing.
+// The two packed files: reading and writing; and a packed call.
 use answers::Answer;
 use answers::Refusal;
 use answers::W;
 use fields::Walk;
+use fields::Walker;
 ghost use mathlib.Core.Path.{_≡_};
-ghost use Prim.Native.Nat.{_≤_, _*_};
+ghost use Prim.Native.Nat.{_≤_, _*_, _^_};
+ghost use mathlib.Core.Bool.{false};
 ghost use lib.ListN.{length};
 ghost use Rattle.bits.specs.Packed.{bytesFor};
 ghost use Rattle.patterns.specs.Reason.{certificate-place};
+ghost use Rattle.fields.specs.Source.{source, start};
+ghost use Rattle.fields.specs.Run.{Ran};
+ghost use Rattle.grammar.specs.Calls.{a-call};
+ghost use Rattle.terms.specs.Arity.{arityAt};
+ghost use Rattle.terms.specs.Values.{nothing};
 ghost use Rattle.answers.specs.Numbers.{w-of};
 ghost use Rattle.layout.specs.Files.{ends-at};
-ghost use Rattle.layout.specs.Openings.{walked-bits, sight, seen-bytes, seen-list, BookOpened, CertificateOpened, Beside};
+ghost use Rattle.layout.specs.Openings.{walked-bits, sight, seen-bytes, seen-list, BookOpened, CertificateOpened, CallOpened, Beside};
 ghost use Rattle.layout.specs.Answers.{listing-beside, writing-beside};
 ghost use Rattle.layout.specs.Promises.{Answers, BookRead, BookWritten, CertificateRead, CertificateWritten};
 
@@ -33,7 +40,7 @@ fn bytes_for(bits: usize) -> usize
 
 // Whether only zero bits follow a bit, up to the next whole byte.
 fn ends(s: &[u8], bit: usize) -> bool
-    requires { ⌜ (length (now s) ≤ 32768) × (bit ≤ 8 * length (now s)) ⌝ }
+    requires { ⌜ (bit ≤ 2 ^ 32) × (bit ≤ 8 * length (now s)) ⌝ }
     ensures { λ r. ⌜ r ≡ ends-at (now (s .entry)) bit ⌝ }
 {
     if s.len() != (bit + 7) / 8 {
@@ -48,7 +55,7 @@ fn ends(s: &[u8], bit: usize) -> bool
 
 // What a walk over a file's bytes comes to, once the end of the file is looked at.
 fn opened(s: &[u8], file: W, walk: Walk) -> Opening
-    requires { ⌜ (length (now s) ≤ 32768) × (walked-bits walk ≤ 8 * length (now s)) ⌝ }
+    requires { ⌜ (walked-bits walk ≤ 2 ^ 32) × (walked-bits walk ≤ 8 * length (now s)) ⌝ }
     ensures { λ r. ⌜ sight r ≡ seen-bytes (w-of file) (now (s .entry)) walk ⌝ }
 {
     match walk {
@@ -239,4 +246,26 @@ pub fn write_certificate(book: &[u8], fields: &[u16], out: &mut [u8]) -> Answer
         Opening::Shut(r) => Answer::Refused(r),
         Opening::Open { value: m, .. } => pack_certificate(book, &counts[..m], fields, out),
     }
+}
+
+// The walk over a call, from its first field on.
+fn call(book: &[u8], s: &[u8], l: &[u16], words: &mut [u16], bytes: &mut [u8]) -> Walk
+    ensures { λ r. ⌜ Ran (source (now (s .entry)) (now (l .entry))) (a-call (arityAt (now (book .entry)) (now (l .entry)) false)) (start false) (now (words .entry)) (now (bytes .entry)) nothing r (now (words .exit)) (now (bytes .exit)) ⌝ }
+{
+    let first = Walker::first(false);
+    match terms::call_term(book, s, l, words, bytes, first) {
+        Walk::No(m, d) => Walk::No(m, d),
+        Walk::On(_, d) => Walk::On(0, d),
+    }
+}
+
+// Reads a call, beside its good book, to its end; it may have any length.
+pub fn open_call(book: &[u8], s: &[u8]) -> Opening
+    ensures { λ r. ⌜ CallOpened (now (book .entry)) (now (s .entry)) r ⌝ }
+{
+    let none = [0u16; 0];
+    let mut words = [0u16; 0];
+    let mut bytes = [0u8; 0];
+    let w = call(book, s, &none, &mut words, &mut bytes);
+    opened(s, W::Call, w)
 }

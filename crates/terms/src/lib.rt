@@ -10,7 +10,7 @@ ghost use mathlib.Core.Bool.{false};
 ghost use Rattle.fields.specs.Source.{source};
 ghost use Rattle.fields.specs.Run.{Ran};
 ghost use Rattle.terms.specs.Arity.{numberAt, arityAt};
-ghost use Rattle.grammar.specs.Terms.{an-applied, a-raised, a-term, args-of, any-term, root-term, a-pair, pairs-of, a-filling};
+ghost use Rattle.grammar.specs.Terms.{an-applied, a-raised, a-term, args-of, any-term, root-term, call-term, a-pair, pairs-of, a-filling};
 ghost use Rattle.terms.specs.Values.{leftOf, leftOfAll, firstOf, nothing};
 
 // Where the book's arities stand, in a list or in bytes, and the number that a stays below.
@@ -177,6 +177,24 @@ pub fn root_term(
 {
     let mode = Mode { listed, end: 1 };
     term(mode, book, s, l, words, bytes, c, 1, 256, 256)
+}
+
+// A call without index, of at most 256 nodes; the book stands in its bytes.
+pub fn call_term(
+    book: &[u8],
+    s: &[u8],
+    l: &[u16],
+    words: &mut [u16],
+    bytes: &mut [u8],
+    c: Walker,
+) -> Walk
+    ensures { λ r. ⌜ Ran (source (now (s .entry)) (now (l .entry))) (call-term (arityAt (now (book .entry)) (now (l .entry)) false)) c (now (words .entry)) (now (bytes .entry)) leftOf r (now (words .exit)) (now (bytes .exit)) ⌝ }
+{
+    let level = Mode {
+        listed: false,
+        end: 1,
+    };
+    term(level, book, s, l, words, bytes, c, 0, 256, 256)
 }
 
 // A variable from `least` on, with the term that fills it.

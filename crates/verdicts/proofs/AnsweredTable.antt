@@ -9,16 +9,17 @@ use lib.Dec.{eqb, ltb}
 use Rattle.answers.specs.Carried.{refusal-at}
 use Rattle.answers.specs.Numbers.{Told, filled-with, refused-with}
 use Rattle.bits.specs.Packed.{packed}
-use Rattle.patterns.specs.Reason.{Reason, book-place, certificate-place}
+use Rattle.patterns.specs.Reason.{Reason, book-place, certificate-place, call-place}
 use Rattle.fields.specs.Source.{source, start}
 use Rattle.fields.specs.Grammar.{Grammar, Outcome, outcome, trace}
 use Rattle.fields.specs.Grammar.Outcome.{ok, no}
 use Rattle.fields.proofs.Refusing.{refused-few}
-use Rattle.grammar.specs.Books.{RuleBook, a-book}
-use Rattle.layout.specs.Files.{within-length, where-good, Opened, good, bad, ends-at, closed-bytes, open-bytes, closed-list, open-list, certificate-of, open-book, open-certificate}
+use Rattle.grammar.specs.Books.{RuleBook, arity-in, a-book}
+use Rattle.grammar.specs.Calls.{a-call}
+use Rattle.layout.specs.Files.{within-length, where-good, Opened, good, bad, ends-at, closed-bytes, open-bytes, closed-list, open-list, certificate-of, open-book, open-certificate, open-call}
 use Rattle.layout.specs.Answers.{Given, gives, refuses, listed, packed-given, reading-book, writing-book, listing-beside, writing-beside, reading-certificate, writing-certificate, told}
 use Rattle.answers.specs.InTable.{InTable}
-use Rattle.answers.proofs.InTable.{long-file-in-table, field-in-table, no-room-in-table}
+use Rattle.answers.proofs.InTable.{long-file-in-table, field-in-table, no-room-in-table, call-in-table as call-field-in-table}
 
 -- what a file, an operation or an answer is refused with is in the table
 abbrev pub OpenedInTable : {A : Type 0} → Opened A → Type 0
@@ -35,9 +36,15 @@ ToldInTable t = (r : Reason) → t ≡ refused-with r → InTable r
 same-bad : {A : Type 0} (r q : Reason) → _≡_ {A = Opened A} (bad r) (bad q) → r ≡ q
 same-bad r q e = cc
 
-module _ {A : Type 0} (w : ℕ) (file : w ≤ 1) (p : Grammar A) where
+abbrev FieldsInTable : ℕ → Type 0
+FieldsInTable w = (m place : ℕ) → 3 ≤ m → m ≤ 7 → InTable (refusal-at m w place)
+
+of-file : (w : ℕ) → w ≤ 1 → FieldsInTable w
+of-file w file m place l n = field-in-table m w place l n file
+
+module _ {A : Type 0} (w : ℕ) (fields : FieldsInTable w) (p : Grammar A) where
   refused : (m place : ℕ) → 3 ≤ m → m ≤ 7 → OpenedInTable {A = A} (bad (refusal-at m w place))
-  refused m place l n r e = subst InTable (same-bad _ _ e) (field-in-table m w place l n file)
+  refused m place l n r e = subst InTable (same-bad _ _ e) (fields m place l n)
 
   ended : (b : Bool) (a : A) (fs : List (ℕ × ℕ)) (place : ℕ) → OpenedInTable (cond b (good a fs) (bad (refusal-at 7 w place)))
   ended true a fs place r e = let z : _≡_ {A = ℕ} 0 1 = cc in absurd (omega arith)
@@ -67,11 +74,15 @@ module _ {A : Type 0} (w : ℕ) (file : w ≤ 1) (p : Grammar A) where
 
 pub book-in-table : (s : List ℕ) → OpenedInTable (open-book s)
 unfolding open-book
-book-in-table s = bytes-in-table book-place (omega arith) a-book s
+book-in-table s = bytes-in-table book-place (of-file book-place (omega arith)) a-book s
 
 pub certificate-in-table : (b : RuleBook) (s : List ℕ) → OpenedInTable (open-certificate b s)
 unfolding open-certificate
-certificate-in-table b s = bytes-in-table certificate-place (omega arith) (certificate-of b) s
+certificate-in-table b s = bytes-in-table certificate-place (of-file certificate-place (omega arith)) (certificate-of b) s
+
+pub call-in-table : (b : RuleBook) (s : List ℕ) → OpenedInTable (open-call b s)
+unfolding open-call
+call-in-table b s = bytes-in-table call-place call-field-in-table (a-call (arity-in (b .arities))) s
 
 -- ---- the operations
 
@@ -119,7 +130,7 @@ reading-book-in-table s = within-in-table book-place (omega arith) 16384 s _ (li
 pub writing-book-in-table : (l : List ℕ) → GivenInTable (writing-book l)
 unfolding writing-book
 writing-book-in-table l =
-    written-in-table book-place (omega arith) 16384 _ (list-in-table book-place (omega arith) a-book l)
+    written-in-table book-place (omega arith) 16384 _ (list-in-table book-place (of-file book-place (omega arith)) a-book l)
 
 pub reading-certificate-in-table : (book s : List ℕ) → GivenInTable (reading-certificate book s)
 unfolding reading-certificate listing-beside
@@ -134,4 +145,4 @@ writing-certificate-in-table book l =
     within-in-table book-place (omega arith) 16384 book _
     (beside-in-table (open-book book) _ (book-in-table book)
     (λ b. written-in-table certificate-place (omega arith) 32768 _
-    (list-in-table certificate-place (omega arith) (certificate-of b) l)))
+    (list-in-table certificate-place (of-file certificate-place (omega arith)) (certificate-of b) l)))

@@ -16,7 +16,7 @@ use Rattle.patterns.specs.First.{Exp, Pair, Pace, one}
 use Rattle.patterns.proofs.Every.{below-listed, every-rest, every-append, every-weaken, every-map}
 use Rattle.grammar.specs.Books.{RuleBook}
 use Rattle.grammar.specs.Limits.{BookFits, call-counts, LinesFit, CertificateFits}
-use Rattle.answers.specs.InTable.{Allows, Among, file-rows, unfold-rows, descent-rows, closing-rows, line-rows, InTable}
+use Rattle.answers.specs.InTable.{Allows, Among, file-rows, unfold-rows, descent-rows, closing-rows, call-rows, line-rows, InTable}
 use Rattle.answers.proofs.InTable.{among-first, among-rest}
 use Rattle.verdicts.proofs.CheckedLines.{Named, named-is-there, Fine, row-at, fine-alone, fine-compare, fine-given, line-checks-fine}
 
@@ -48,14 +48,18 @@ module _ (es : List (Claim Exp)) (c : Closing Exp Pace) (few : c .line ≤ 254) 
 line-in-table : {E R : Type 0} (k : LineKind E R) (r : Reason) → Among (line-rows k) r → InTable r
 unfolding line-rows InTable
 line-in-table (unfolds k θ s) r h =
-    among-first (file-rows ++ unfold-rows ++ descent-rows) closing-rows r
-    (among-first (file-rows ++ unfold-rows) descent-rows r (among-rest file-rows unfold-rows r h))
+    among-first (file-rows ++ unfold-rows ++ descent-rows ++ closing-rows) call-rows r
+    (among-first (file-rows ++ unfold-rows ++ descent-rows) closing-rows r
+    (among-first (file-rows ++ unfold-rows) descent-rows r (among-rest file-rows unfold-rows r h)))
 line-in-table (descends u k θ) r h =
-    among-first (file-rows ++ unfold-rows ++ descent-rows) closing-rows r (among-rest (file-rows ++ unfold-rows) descent-rows r h)
+    among-first (file-rows ++ unfold-rows ++ descent-rows ++ closing-rows) call-rows r
+    (among-first (file-rows ++ unfold-rows ++ descent-rows) closing-rows r (among-rest (file-rows ++ unfold-rows) descent-rows r h))
 
 closing-in-table : (r : Reason) → Among closing-rows r → InTable r
 unfolding InTable
-closing-in-table r h = among-rest (file-rows ++ unfold-rows ++ descent-rows) closing-rows r h
+closing-in-table r h =
+    among-first (file-rows ++ unfold-rows ++ descent-rows ++ closing-rows) call-rows r
+    (among-rest (file-rows ++ unfold-rows ++ descent-rows) closing-rows r h)
 
 module _ (b : RuleBook) (book : BookFits b) where
   -- a check of the certificate: its refusal is in the table, and what it names is there

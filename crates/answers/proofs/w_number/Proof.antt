@@ -24,12 +24,17 @@ returns-5 : tie.Need-returns-5
 unfolding w-of
 returns-5 c = search needs
 
+returns-6 : tie.Need-returns-6
+unfolding w-of
+returns-6 c = search needs
+
 pub w-number-spec : {M : Type 1} → statement M
 w-number-spec =
     tie.close (tie.spec
-    (λ c. search needs) (λ c. search needs) (λ c. search needs) (λ c. search needs) (λ c. search needs)
+    (λ c. search needs) (λ c. search needs) (λ c. search needs) (λ c. search needs) (λ c. search needs) (λ c. search needs)
     returns
     returns-2
     returns-3
     returns-4
-    returns-5)
+    returns-5
+    returns-6)

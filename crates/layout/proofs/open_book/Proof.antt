@@ -1,5 +1,4 @@
 -- `layout::open_book` meets its contract.
-use native.Mathlib.Omega.{arith}
 use Rattle.layout.proofs.FileEnds.{inside-bytes}
 use Rattle.layout.proofs.Opens.{book-opened}
 use borrow.Author.Needs.{needs}
@@ -7,7 +6,7 @@ use Rattle.layout.proofs.open_book.Statement.{statement}
 use Rattle.layout.proofs.open_book.Tie as tie
 
 opened-requires : tie.Need-opened-requires
-opened-requires c κs = (omega (arith, c .before .before .before .before .before .before .before .before .before .before .before .pre .0), inside-bytes _ _ _ (c .before .before .before .before .book .ensures .0))
+opened-requires c κs = inside-bytes _ _ _ (c .before .before .before .before .book .ensures .0)
 
 returns : tie.Need-returns
 returns c = book-opened _ (c .before .before .before .before .before .book .ensures .0) (c .before .before .before .before .before .book .ensures .1) (c .before .before .before .before .before .before .before .before .before .before .before .before .pre .1) (c .opened .ensures)

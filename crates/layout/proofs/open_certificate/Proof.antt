@@ -11,7 +11,7 @@ certificate-requires : tie.Need-certificate-requires
 certificate-requires c κs = few-counts _ [] _ (c .before .before .before .before .before .before .pre .0)
 
 opened-requires : tie.Need-opened-requires
-opened-requires c κs = (c .before .before .before .before .before .before .before .before .before .pre .1, inside-bytes _ _ _ (beside-ran _ _ _ (c .before .before .before .before .before .before .before .before .before .pre .0) (c .before .before .certificate .ensures)))
+opened-requires c κs = inside-bytes _ _ _ (beside-ran _ _ _ (c .before .before .before .before .before .before .before .before .before .pre .0) (c .before .before .certificate .ensures))
 
 returns : tie.Need-returns
 returns c = certificate-opened _ _ (c .before .before .before .before .before .before .before .before .before .before .pre .0) _ (c .before .before .before .certificate .ensures) (c .opened .ensures)

@@ -5,7 +5,7 @@ use Rattle.layout.proofs.opened.Statement.{statement}
 use Rattle.layout.proofs.opened.Tie as tie
 
 ends-requires : tie.Need-ends-requires
-ends-requires c κs = (c .before .before .before .before .pre .0, bits-on _ (c .before .walk2 .given .1) (c .before .before .before .before .pre .1))
+ends-requires c κs = (bits-on _ (c .before .walk2 .given .1) (c .before .before .before .before .pre .0), bits-on _ (c .before .walk2 .given .1) (c .before .before .before .before .pre .1))
 
 returns : tie.Need-returns
 returns c = bytes-good _ _ (c .before .before .before .walk2 .given .1) (c .before .ends .ensures) (c .if1 .taken)
