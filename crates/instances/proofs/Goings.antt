@@ -7,12 +7,13 @@ use native.Mathlib.Omega.{arith}
 use Rattle.patterns.specs.Term.{Node}
 use Rattle.patterns.specs.First.{Exp}
 use Rattle.instances.specs.Headers.{headerAt}
-use Rattle.instances.specs.Walks.{single, next-stand, Next, first-stand, Passage, ahead, walk, Within, Stepped, Turns, walked}
+use Rattle.instances.specs.Walks.{single, next-stand, Next, first-stand, Passage, ahead, walk, Within, Named, Stepped, Turns, walked}
 use Rattle.instances.specs.Instances.{Skips}
 use Rattle.instances.specs.declared.Header.{Header}
 use Rattle.instances.specs.declared.Stand.{Stand}
 use Rattle.instances.specs.declared.Turn.{Turn}
 use Rattle.instances.specs.declared.Turn.the-variants.{Node as Met, Over}
+use Rattle.instances.proofs.Headers.{header-named}
 use Rattle.instances.proofs.Walks.{walk-step, walk-none, walked-term}
 
 -- ---- what a step answers
@@ -35,6 +36,7 @@ module _ (book s : List ℕ) (left : ℕ) (p : Stand) where
         is = (
           omega arith,
           omega (arith, n .few),
+          subst Named (sym e) (header-named book s (p .at)),
           ap (λ k. walk book s k p) down
               ∙ walk-step book s (left - 1) p more
               ∙ ap (λ k. ahead (single k) (walk book s (left - 1) (next-stand (p .pending) k))) (sym e)
@@ -64,18 +66,22 @@ module _ {P : List (Node Exp) → Type 0} {book s : List ℕ} {at left : ℕ} {p
       ∙ ap (λ ns. record { met = ns; end = p .at }) (append-nil (g .met))
 
   module _ {h : Header} {q : Stand} (e : r ≡ Met h q) where
-    stepped : (0 < left) × Within (left - 1) q × (walk book s left p ≡ ahead (single h) (walk book s (left - 1) q))
+    stepped : (0 < left) × Within (left - 1) q × Named h × (walk book s left p ≡ ahead (single h) (walk book s (left - 1) q))
     unfolding Stepped
     stepped = subst (Stepped book s left p) e (k .is)
 
     pub going-left : 0 < left
     going-left = stepped .0
 
+    -- a variable that is met has one of 64 names
+    pub going-named : Named h
+    going-named = stepped .2
+
     -- one node more
     pub going-more : walked book s at ≡ ahead (g .met ++ single h) (walk book s (left - 1) q)
     going-more =
         g .whole
-        ∙ ap (ahead (g .met)) (stepped .2)
+        ∙ ap (ahead (g .met)) (stepped .3)
         ∙ ap (λ ns. record { met = ns; end = walk book s (left - 1) q .end }) (sym (append-assoc (g .met) (single h) _))
 
     pub going-on : {Q : List (Node Exp) → Type 0} → Q (g .met ++ single h) → Going Q book s at (left - 1) q

@@ -17,6 +17,7 @@ use Rattle.terms.specs.Arity.{arityAt}
 use Rattle.terms.proofs.Arities.{in-bytes-only}
 use Rattle.instances.specs.Lying.{Lies, arities}
 use Rattle.instances.specs.Headers.{on-taken, variableAt, symbolAt, powerAt, byTag, headerAt}
+use Rattle.instances.specs.Walks.{Named}
 use Rattle.instances.specs.declared.Header.{Header}
 use Rattle.instances.specs.declared.Header.the-variants.{Variable, Symbol, Power, Missing}
 use Rattle.instances.proofs.Lying.{lies-first, lies-rest}
@@ -119,23 +120,36 @@ SmallHeader (Symbol f n c) = Unit {0}
 SmallHeader (Power f a b c) = (a < 4096) × (b < 4096)
 SmallHeader Missing = Unit {0}
 
-small-field : (s : List ℕ) (w at : ℕ) (next : ℕ → Cursor → Header) → ((v : ℕ) (c : Cursor) → v < 2 ^ w → SmallHeader (next v c))
-    → SmallHeader (on-taken (readField s w at) next)
-unfolding on-taken SmallHeader
-small-field s w at next h = go (readField s w at) (λ v c e. subst (λ x. x < 2 ^ w) (read-got s w at v c e .0) (bits-lt s at w))
+-- what holds of every header that a field of w bits leads to, and of a missing one
+of-field : (P : Header → Type 0) → P Missing → (s : List ℕ) (w at : ℕ) (next : ℕ → Cursor → Header) → ((v : ℕ) (c : Cursor) → v < 2 ^ w → P (next v c))
+    → P (on-taken (readField s w at) next)
+unfolding on-taken
+of-field P missing s w at next h = go (readField s w at) (λ v c e. subst (λ x. x < 2 ^ w) (read-got s w at v c e .0) (bits-lt s at w))
   where
-    go : (r : Taken) → ((v : ℕ) (c : Cursor) → r ≡ Got v c → v < 2 ^ w) → SmallHeader (on-taken r next)
+    go : (r : Taken) → ((v : ℕ) (c : Cursor) → r ≡ Got v c → v < 2 ^ w) → P (on-taken r next)
     go (Got v c) k = h v c (k v c refl)
-    go Past k = tt
+    go Past k = missing
 
-either : (b : Bool) (h k : Header) → SmallHeader h → SmallHeader k → SmallHeader (cond b h k)
-either true h k p q = p
-either false h k p q = q
+either : (P : Header → Type 0) (b : Bool) (h k : Header) → P h → P k → P (cond b h k)
+either P true h k p q = p
+either P false h k p q = q
+
+-- and of the header at a bit, if it holds of one by each tag
+of-header : (P : Header → Type 0) → P Missing → (book s : List ℕ) (at : ℕ) → ((k : ℕ) → P (variableAt s k)) → ((k : ℕ) → P (symbolAt book s k))
+    → ((k : ℕ) → P (powerAt s k)) → P (headerAt book s at)
+unfolding headerAt byTag
+of-header P missing book s at x f g =
+    of-field P missing s 2 at _ λ tag c _. either P (eqb tag 0) _ _ (x (c .at))
+    (either P (eqb tag 1) _ _ (f (c .at)) (either P (eqb tag 2) _ _ (g (c .at)) missing))
 
 pub header-small : (book s : List ℕ) (at : ℕ) → SmallHeader (headerAt book s at)
-unfolding headerAt byTag variableAt symbolAt powerAt SmallHeader
+unfolding variableAt symbolAt powerAt SmallHeader
 header-small book s at =
-    small-field s 2 at _ λ tag c _. either (eqb tag 0) _ _ (small-field s 6 (c .at) _ λ x d _. tt)
-    (either (eqb tag 1) _ _ (small-field s 8 (c .at) _ λ f d _. tt)
-    (either (eqb tag 2) _ _
-    (small-field s 8 (c .at) _ λ f d _. small-field s 12 (d .at) _ λ a e p. small-field s 12 (e .at) _ λ b g q. (p, q)) tt))
+    of-header SmallHeader tt book s at (λ k. of-field SmallHeader tt s 6 k _ λ x d _. tt) (λ k. of-field SmallHeader tt s 8 k _ λ f d _. tt)
+    (λ k. of-field SmallHeader tt s 8 k _ λ f d _. of-field SmallHeader tt s 12 (d .at) _ λ a e p. of-field SmallHeader tt s 12 (e .at) _ λ b g q. (p, q))
+
+pub header-named : (book s : List ℕ) (at : ℕ) → Named (headerAt book s at)
+unfolding variableAt symbolAt powerAt Named
+header-named book s at =
+    of-header Named tt book s at (λ k. of-field Named tt s 6 k _ λ x d p. p) (λ k. of-field Named tt s 8 k _ λ f d _. tt)
+    (λ k. of-field Named tt s 8 k _ λ f d _. of-field Named tt s 12 (d .at) _ λ a e _. of-field Named tt s 12 (e .at) _ λ b g _. tt)

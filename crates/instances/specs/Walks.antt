@@ -60,10 +60,17 @@ walk book s (suc left) p =
 abbrev pub Within : ℕ → Stand → Type 0
 Within left p = p .pending + 65536 * left ≤ 2 ^ 32
 
+-- 01: "variable, 6 bits": a variable that is met has one of 64 names
+unfoldable pub Named : Header → Type 0
+Named (Variable x c) = x < 64
+Named (Symbol f n c) = Unit {0}
+Named (Power s a b c) = Unit {0}
+Named Missing = Unit {0}
+
 -- one step of the walk from p on: it is over, or it meets a header and goes on behind it
 unfoldable pub Stepped : List ℕ → List ℕ → ℕ → Stand → Turn → Type 0
 Stepped book s left p Over = walk book s left p ≡ ended p
-Stepped book s left p (Met h q) = (0 < left) × Within (left - 1) q × (walk book s left p ≡ ahead (single h) (walk book s (left - 1) q))
+Stepped book s left p (Met h q) = (0 < left) × Within (left - 1) q × Named h × (walk book s left p ≡ ahead (single h) (walk book s (left - 1) q))
 
 pub record Turns (book s : List ℕ) (left : ℕ) (p : Stand) (r : Turn) : Type 0 where
   pub is : Stepped book s left p r

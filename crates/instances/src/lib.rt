@@ -31,7 +31,7 @@ pub struct Read {
 
 // The header of a node, with the cursor past it: a variable, a symbol with its arity, or a power of a symbol with a and b. It is
 // missing where a field runs past the end or the tag is 3.
-enum Header {
+pub enum Header {
     Variable {
         variable: u16,
         past: Cursor,
@@ -51,13 +51,13 @@ enum Header {
 }
 
 // Where a walk stands: the bit, and how many terms are still to come.
-struct Stand {
-    at: usize,
-    pending: usize,
+pub struct Stand {
+    pub at: usize,
+    pub pending: usize,
 }
 
 // A turn of a walk: the header that it meets, and where it stands behind that node; or the walk is over.
-enum Turn {
+pub enum Turn {
     Node { header: Header, stand: Stand },
     Over,
 }
@@ -104,7 +104,7 @@ fn next(header: Header, pending: usize) -> Stand
 }
 
 // One turn of a walk that meets at most `left` nodes more.
-fn step(book: &[u8], s: &[u8], p: Stand, left: usize) -> Turn
+pub fn step(book: &[u8], s: &[u8], p: Stand, left: usize) -> Turn
     requires { ⌜ Within left p ⌝ }
     ensures { λ r. ⌜ Turns (now (book .entry)) (now (s .entry)) left p r ⌝ }
 {

@@ -1,4 +1,5 @@
--- A file that was opened lies in its bytes, field by field, and the verdict on two such files is that of the judge over trees.
+-- A file that was opened lies in its bytes, field by field; the verdict on two such files is that of the judge over trees, and where it accepts,
+-- the table tells where the named line's left lies.
 use Prim.Native.Nat.{ℕ, _+_, _≤_}
 use mathlib.Core.Path.{_≡_, refl, sym, subst, _∙_}
 use mathlib.Core.Bool.{false}
@@ -16,7 +17,7 @@ use Rattle.fields.specs.Spells.{Spells}
 use Rattle.fields.proofs.Reading.{trace-reads, trace-room, trace-spells}
 use Rattle.grammar.specs.Books.{RuleBook, a-book}
 use Rattle.grammar.specs.Listing.{Fields, book-fields, certificate-fields}
-use Rattle.grammar.specs.Limits.{BookFits, CertificateFits}
+use Rattle.grammar.specs.Limits.{call-counts, BookFits, CertificateFits}
 use Rattle.grammar.proofs.BookFields.{a-book-exactly}
 use Rattle.grammar.proofs.CertificateFields.{a-certificate-exactly}
 use Rattle.terms.specs.Values.{nothing}
@@ -28,12 +29,13 @@ use Rattle.layout.specs.Openings.{Beside, CertificateOpened}
 use Rattle.layout.proofs.Opens.{in-bytes}
 use Rattle.layout.proofs.Answering.{opening-shut, opening-good}
 use Rattle.layout.proofs.Besides.{arities-known}
-use Rattle.instances.specs.Lying.{Lies}
+use Rattle.instances.specs.Lying.{Lies, Known-arities}
 use Rattle.lines.specs.Certificates.{JudgesLines}
 use Rattle.answers.specs.declared.Verdict.{Verdict}
 use Rattle.answers.specs.declared.Verdict.the-variants.{Refused}
 use Rattle.verdicts.specs.Judging.{judging-certificate}
 use Rattle.verdicts.proofs.Layers.{certificate-refused, both-opened}
+use Rattle.judging.specs.Placed.{Placed}
 
 -- ---- what was opened lies there
 
@@ -41,7 +43,7 @@ pub record LiesOpened {A : Type 0} (p : Grammar A) (s : List ℕ) (a : A) (fs : 
   pub spelled : Spells p a fs
   pub lies : Lies s 0 fs
 
-lies-opened : {A : Type 0} (w : ℕ) (p : Grammar A) (s : List ℕ) {a : A} {fs : Fields} → open-bytes w p s ≡ good a fs → LiesOpened p s a fs
+pub lies-opened : {A : Type 0} (w : ℕ) (p : Grammar A) (s : List ℕ) {a : A} {fs : Fields} → open-bytes w p s ≡ good a fs → LiesOpened p s a fs
 lies-opened w p s {a} {fs} e =
     let x = in-bytes w p s e in
     record {
@@ -62,6 +64,10 @@ book-lies {s} {b} {fs} e =
     let x = lies-opened book-place a-book s e in
     let y = a-book-exactly .forth b fs (x .spelled) in
     record { fits = y .0; lies = subst (Lies s 0) (y .1) (x .lies) }
+
+-- the arities that its bytes tell are its own
+pub book-arities : (s : List ℕ) {b : RuleBook} {fs : Fields} → open-book s ≡ good b fs → Known-arities s (b .arities)
+book-arities s {b} {fs} e = arities-known s [] (call-counts (b .rules)) (record { tree = b; fields = fs; opened = e; counted = refl })
 
 pub record CertificateLies (s : List ℕ) (b : RuleBook) (K : Certificate Exp Pair Pace) : Type 0 where
   pub fits : CertificateFits b K
@@ -90,5 +96,19 @@ module _ {book counts certificate : List ℕ} {o : Opening} (B : Beside book cou
       let g = opening-good nothing (open-certificate (B .tree) certificate) (C .told (B .tree) (B .fields) (B .opened)) e in
       let b = book-lies (B .opened) in
       let c = certificate-lies (b .fits) (g .is) in
-      j .told (B .tree) (arities-known book [] counts B) (b .fits) (b .lies) (g .tree) (c .fits) (c .lies)
+      j .told (B .tree) (book-arities book (B .opened)) (b .fits) (b .lies) (g .tree) (c .fits) (c .lies) .is
       ∙ sym (both-opened book certificate (B .tree) (B .fields) (B .opened) (g .tree) (g .fields) (g .is))
+
+-- ---- where the named line's left lies
+
+pub refused-placed : {book certificate after : List ℕ} {r : Refusal} → Placed book certificate after (Refused r)
+unfolding paper-verdict
+refused-placed = record { left = λ line pace a b fs e K gs f p named. let z : _≡_ {A = ℕ} 0 1 = cc in absurd (omega arith) }
+
+pub judged-placed : {book certificate w after : List ℕ} {r : Verdict} → JudgesLines book certificate w after r → Placed book certificate after r
+judged-placed {book} j = record {
+  left = λ line pace a b fs e K gs f p named.
+      let x = book-lies e in
+      let y = certificate-lies (x .fits) f in
+      j .told b (book-arities book e) (x .fits) (x .lies) K (y .fits) (y .lies) .known line pace a .claim line p named .left-at;
+}

@@ -1,2 +1,3 @@
--- What the two judges promise.
+-- What the two judges promise, and what an accepted certificate leaves in the table.
 pub mod Judged
+pub mod Placed

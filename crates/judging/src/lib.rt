@@ -13,12 +13,14 @@ ghost use Rattle.layout.specs.Openings.{Beside};
 ghost use Rattle.verdicts.specs.Judging.{judging-certificate, judging-files, refusal-one};
 ghost use Rattle.verdicts.specs.Program.{book-length, judging-framed};
 ghost use Rattle.judging.specs.Judged.{Judged, JudgedInput};
+ghost use Rattle.judging.specs.Placed.{Placed};
 
 // The certificate beside its good book: read to its end, then judged.
 fn judge_certificate(book: &[u8], counts: &[u8], certificate: &[u8], work: &mut [u64]) -> Verdict
     requires { ⌜ Beside (now book) (now counts) × (length (now certificate) ≤ 32768) × (WORDS ≤ length (now work)) ⌝ }
     ensures answered { λ r. ⌜ paper-verdict r ≡ judging-certificate (now (book .entry)) (now (certificate .entry)) ⌝ }
     ensures lent { λ _. ⌜ length (now (work .exit)) ≡ length (now (work .entry)) ⌝ }
+    ensures placed { λ r. ⌜ Placed (now (book .entry)) (now (certificate .entry)) (now (work .exit)) r ⌝ }
 {
     match layout::open_certificate(book, counts, certificate) {
         Opening::Shut(r) => Verdict::Refused(r),
@@ -26,11 +28,13 @@ fn judge_certificate(book: &[u8], counts: &[u8], certificate: &[u8], work: &mut 
     }
 }
 
-// Both files: their lengths, the whole book, and the certificate beside it.
-fn judge_files(book: &[u8], certificate: &[u8], work: &mut [u64]) -> Verdict
+// Both files: their lengths, the whole book, and the certificate beside it. The table is not cleared: this also serves what asks more of
+// an accepted certificate.
+pub fn judge_files(book: &[u8], certificate: &[u8], work: &mut [u64]) -> Verdict
     requires { ⌜ WORDS ≤ length (now work) ⌝ }
     ensures answered { λ r. ⌜ paper-verdict r ≡ judging-files (now (book .entry)) (now (certificate .entry)) ⌝ }
     ensures lent { λ _. ⌜ length (now (work .exit)) ≡ length (now (work .entry)) ⌝ }
+    ensures placed { λ r. ⌜ Placed (now (book .entry)) (now (certificate .entry)) (now (work .exit)) r ⌝ }
 {
     if book.len() > 16384 {
         return Verdict::Refused(answers::whole(2, W::Book));
@@ -46,7 +50,7 @@ fn judge_files(book: &[u8], certificate: &[u8], work: &mut [u64]) -> Verdict
 }
 
 // Whether a work table has fewer than 8,192 numbers.
-fn is_short(work: &[u64]) -> bool
+pub fn is_short(work: &[u64]) -> bool
     ensures { λ r. ⌜ Says (length (now (work .entry)) < WORDS) r ⌝ }
 {
     work.len() < WORDS

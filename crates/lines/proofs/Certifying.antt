@@ -2,17 +2,17 @@
 use Prim.Native.Nat.{ℕ, _+_, _-_, _≤_}
 use mathlib.Core.Path.{_≡_, refl, sym, subst, ap, _∙_}
 use mathlib.Core.Logic.{_≢_}
-use mathlib.Core.List.{List, [], _∷_, _++_, flatMap, append-assoc}
+use mathlib.Core.List.{List, [], _∷_, _++_, map, flatMap, append-assoc, append-nil}
 use mathlib.Core.Option.{Option, none, some}
 use native.Mathlib.Omega.{arith}
 use lib.ListN.{length, getD}
 use Rattle.answers.specs.Carried.{carried}
 use Rattle.answers.specs.Numbers.{paper-verdict}
-use Rattle.patterns.specs.Reason.{line-place}
+use Rattle.patterns.specs.Reason.{Reason, line-place}
 use Rattle.patterns.specs.First.{Exp, Pair, Pace, one}
 use Rattle.patterns.specs.Derive.{Book}
-use Rattle.patterns.specs.Certificate.{Claim, Line, Closing}
-use Rattle.patterns.specs.Judge.{line-checks, checks-from, checks, first-unmet, refuse, ruling, judge}
+use Rattle.patterns.specs.Certificate.{Claim, Line, Closing, claim-of}
+use Rattle.patterns.specs.Judge.{line-checks, checks-from, checks, first-unmet, Ruling, accept, refuse, ruling, judge}
 use Rattle.grammar.specs.Listing.{line-fields, closing-fields, certificate-fields}
 use Rattle.grammar.specs.Limits.{LinesFit, ClosingFits, call-counts}
 use Rattle.table.specs.Places.{LEFTS, RIGHTS, EMPTY}
@@ -26,24 +26,31 @@ use Rattle.instances.specs.Listings.{Forgets}
 use Rattle.begins.specs.Placed.{ClaimAt, Indexes}
 use Rattle.instances.specs.Taking.{Takes}
 use Rattle.begins.specs.Known.{Known}
-use Rattle.lines.specs.Certificates.{LineAt, ClosingAt, LinesAt, Prepares, JudgesLines}
+use Rattle.lines.specs.Certificates.{LineAt, ClosingAt, Ruled, LinesAt, Prepares, JudgesLines}
 use Rattle.instances.proofs.Lying.{lies-front, lies-back}
 use Rattle.instances.proofs.Taking.{rest-at}
 use Rattle.instances.proofs.Entries.{entry-same}
+use Rattle.begins.proofs.Frames.{below-less, known-below}
 use Rattle.comparing.proofs.Finding.{at-fault, at-good}
 use Rattle.lines.proofs.Claims.{length-more}
 use Rattle.lines.proofs.Placing.{fault-carried, placed-none, placed-fault}
 
 -- ---- all lines
 
+never-both : {n : Reason} {line : ℕ} {pace : Pace} → _≡_ {A = Ruling Pace} (refuse n) (accept line pace) → ⊥
+never-both e = let z : _≡_ {A = ℕ} 0 1 = cc in omega arith
+
 pub lines-none : {book cert w after : List ℕ} {at k n : ℕ} {r : Verdict} → n ≡ 0 → ClosingAt book cert at w after r → LinesAt book cert at k n w after r
 unfolding flatMap checks-from
-lines-none {book} {cert} {w} {after} {at} {k} {n} {r} z p = record { told = go; size = p .size }
+lines-none {book} {cert} {w} {after} {at} {k} {n} {r} z p = record { told = go; size = p .below .size }
   where
     go : (ars : List ℕ) (B : Book Exp) (es : List (Claim Exp)) → Known book cert w ars B es → length es ≡ k → (ls : List (Line Exp Pair)) (c : Closing Exp Pace)
         → length ls ≡ n → LinesFit ars (call-counts B) k ls → ClosingFits ars (k + n) c → Lies cert at (flatMap line-fields ls ++ closing-fields c)
-        → paper-verdict r ≡ ruling one (first-unmet one (checks-from one B es k ls c)) c
-    go ars B es known len [] c e fits cf lies = p .told ars B es known c (subst (λ j. ClosingFits ars j c) (omega arith) cf) lies
+        → Ruled book cert after ars B (es ++ map claim-of ls) (ruling one (first-unmet one (checks-from one B es k ls c)) c) r
+    go ars B es known len [] c e fits cf lies = record {
+      is = p .told ars B es known c (subst (λ j. ClosingFits ars j c) (omega arith) cf) lies;
+      known = λ line pace a. subst (Known book cert after ars B) (sym (append-nil es)) (known-below (below-less (omega arith) (p .below)) known);
+    }
     go ars B es known len (l ∷ ls) c e fits cf lies = absurd (omega arith)
 
 module _ {book cert w v : List ℕ} {at k n : ℕ} {f : Found} (ne : n ≢ 0) (small : k + n ≤ 255) (first : LineAt book cert at k w v f) where
@@ -53,15 +60,18 @@ module _ {book cert w v : List ℕ} {at k n : ℕ} {f : Found} (ne : n ≢ 0) (s
     where
       go : (ars : List ℕ) (B : Book Exp) (es : List (Claim Exp)) → Known book cert w ars B es → length es ≡ k → (ls : List (Line Exp Pair)) (c : Closing Exp Pace)
           → length ls ≡ n → LinesFit ars (call-counts B) k ls → ClosingFits ars (k + n) c → Lies cert at (flatMap line-fields ls ++ closing-fields c)
-          → paper-verdict r ≡ ruling one (first-unmet one (checks-from one B es k ls c)) c
+          → Ruled book cert v ars B (es ++ map claim-of ls) (ruling one (first-unmet one (checks-from one B es k ls c)) c) r
       go ars B es known len [] c i fits cf lies = absurd (ne (sym i))
       go ars B es known len (l ∷ ls) c i fits cf lies =
           let all = append-assoc (line-fields l) (flatMap line-fields ls) (closing-fields c) in
           let here = lies-front cert at (line-fields l) (flatMap line-fields ls ++ closing-fields c) (subst (Lies cert at) all lies) in
           let x = first .told ars B es known len (omega arith) l (fits .0) (fits .1) here in
           let found = at-fault (x .0) q in
-          e ∙ ap refuse (fault-carried _ (parted-line one es B (l .claim) (l .kind)) m p line-place k found)
-          ∙ sym (placed-fault line-place k _ (line-checks one es B (l .claim) (l .kind)) m p c found)
+          record {
+            is = e ∙ ap refuse (fault-carried _ (parted-line one es B (l .claim) (l .kind)) m p line-place k found)
+                ∙ sym (placed-fault line-place k _ (line-checks one es B (l .claim) (l .kind)) m p c found);
+            known = λ line pace a. absurd (never-both (sym e ∙ a));
+          }
 
   pub lines-on : {x : ℕ} {after : List ℕ} {r : Verdict} → f ≡ Good x → LinesAt book cert x (k + 1) (n - 1) v after r → LinesAt book cert at k n w after r
   unfolding flatMap checks-from LinesFit
@@ -69,7 +79,7 @@ module _ {book cert w v : List ℕ} {at k n : ℕ} {f : Found} (ne : n ≢ 0) (s
     where
       go : (ars : List ℕ) (B : Book Exp) (es : List (Claim Exp)) → Known book cert w ars B es → length es ≡ k → (ls : List (Line Exp Pair)) (c : Closing Exp Pace)
           → length ls ≡ n → LinesFit ars (call-counts B) k ls → ClosingFits ars (k + n) c → Lies cert at (flatMap line-fields ls ++ closing-fields c)
-          → paper-verdict r ≡ ruling one (first-unmet one (checks-from one B es k ls c)) c
+          → Ruled book cert after ars B (es ++ map claim-of ls) (ruling one (first-unmet one (checks-from one B es k ls c)) c) r
       go ars B es known len [] c i fits cf lies = absurd (ne (sym i))
       go ars B es known len (l ∷ ls) c i fits cf lies =
           let all = append-assoc (line-fields l) (flatMap line-fields ls) (closing-fields c) in
@@ -78,10 +88,14 @@ module _ {book cert w v : List ℕ} {at k n : ℕ} {f : Found} (ne : n ≢ 0) (s
           let good = at-good (y .0) q in
           let behind-it = subst (λ j. Lies cert j (flatMap line-fields ls ++ closing-fields c)) (sym (good .1))
           (lies-back cert at (line-fields l) (flatMap line-fields ls ++ closing-fields c) whole) in
-          rest .told ars B (es ++ (l .claim ∷ [])) (y .1) (length-more es (l .claim) ∙ omega arith) ls c (omega arith) (fits .2)
-          (subst (λ j. ClosingFits ars j c) (omega arith) cf) behind-it
-          ∙ ap (λ j. ruling one (first-unmet one (checks-from one B (es ++ (l .claim ∷ [])) j ls c)) c) (omega arith)
-          ∙ sym (ap (λ o. ruling one o c) (placed-none line-place k _ (line-checks one es B (l .claim) (l .kind)) (good .0)))
+          let x = rest .told ars B (es ++ (l .claim ∷ [])) (y .1) (length-more es (l .claim) ∙ omega arith) ls c (omega arith) (fits .2)
+          (subst (λ j. ClosingFits ars j c) (omega arith) cf) behind-it in
+          record {
+            is = x .is
+                ∙ ap (λ j. ruling one (first-unmet one (checks-from one B (es ++ (l .claim ∷ [])) j ls c)) c) (omega arith)
+                ∙ sym (ap (λ o. ruling one o c) (placed-none line-place k _ (line-checks one es B (l .claim) (l .kind)) (good .0)));
+            known = λ line pace a. subst (Known book cert after ars B) (append-assoc es (l .claim ∷ []) (map claim-of ls)) (x .known line pace a);
+          }
 
 -- ---- the whole
 

@@ -36,7 +36,7 @@ use Rattle.comparing.specs.Found.{Finds}
 use Rattle.comparing.specs.Asked.{asked-at, checks-of, end-of, Checks}
 use Rattle.lines.specs.Certificates.{pace-of, ClosingFound, ClosingBy, ClosingAt}
 use Rattle.instances.proofs.Taking.{rest-at}
-use Rattle.begins.proofs.Frames.{below-less, kept-below, known-below, tells-below}
+use Rattle.begins.proofs.Frames.{below-then, below-less, kept-below, known-below, tells-below}
 use Rattle.comparing.proofs.Meanings.{filled-means, plain-right}
 use Rattle.comparing.proofs.Finding.{fault-unmet, at-fault, at-good, finds-stop, finds-then, finds-given}
 use Rattle.patterns.proofs.Every.{below-listed}
@@ -67,7 +67,7 @@ module _ {book cert w v : List ℕ} {left right : ℕ} {r : Found} (first : Chec
     told = λ ars B es known d e p filled small.
         let n = below-listed es (d .line) small in
         (0, finds-given _ (n .1) (finds-stop _ (there-found known (closed-claim el er known (d .line) e (n .0) (n .1))) q));
-    size = first .below .size;
+    below = first .below;
   }
 
   module _ (k α : ℕ) {x : ℕ} {from-right : Subject} {after : List ℕ} {s : Found} (good : r ≡ Good x) (plain : RightMeans cert right 1 α Bare from-right) (second : Checks book cert AtClosing 1 right Nothing from-right (Claimed left 1 (α + k) Used) v after s) where
@@ -95,7 +95,7 @@ module _ {book cert w v : List ℕ} {left right : ℕ} {r : Found} (first : Chec
           let here = closed-claim el er known (d .line) e (n .0) (n .1) in
           let loop = loop-found known d p filled (n .0) here (n .0 .right) refl in
           (loop .0, finds-given _ (n .1) (finds-then (there-found known here) good (λ z. loop .1)));
-      size = second .below .size ∙ first .below .size;
+      below = below-then (first .below) (second .below);
     }
 
 module _ {book cert w v : List ℕ} {line k α : ℕ} {f : Found} (found : ClosingFound book cert line k α w v f) where
@@ -106,7 +106,7 @@ module _ {book cert w v : List ℕ} {line k α : ℕ} {f : Found} (found : Closi
         e ∙ ap (λ a. refuse (carried n closing-place a p)) (sym i)
         ∙ ap refuse (fault-carried (closing-checks one es d) (parted-closing one es d) n p closing-place (d .line) first)
         ∙ sym (closed-fault (d .line) (closing-checks one es d) n p d first);
-    size = found .size;
+    below = found .below;
   }
 
   pub closing-good : {x : ℕ} {r : Verdict} → f ≡ Good x → paper-verdict r ≡ accept line (pace-of k α) → ClosingBy book cert line k α w v r
@@ -114,7 +114,7 @@ module _ {book cert w v : List ℕ} {line k α : ℕ} {f : Found} (found : Closi
     told = λ ars B es known d i p filled small.
         e ∙ ap (λ a. accept a (pace-of k α)) (sym i) ∙ ap (accept (d .line)) (sym p)
         ∙ sym (closed-none (d .line) (closing-checks one es d) d (at-good (found .told ars B es known d i p filled small .1) q .0));
-    size = found .size;
+    below = found .below;
   }
 
 pub closing-at : {book cert w v after : List ℕ} {at end : ℕ} {c d e : Read} {r : Verdict} → Takes cert 8 at c → Takes cert 12 (c .at) d → Takes cert 12 (d .at) e
@@ -127,7 +127,7 @@ closing-at {book} {cert} {w} {v} {after} {at} {end} {c} {d} {e} tc td te f p = r
       let z = te .told (k .pace .α) _ (rest-at td (rest-at tc lies)) in
       let g = f .told ars (known .arity) (k .fills) (fits .fills) (rest-at te (rest-at td (rest-at tc lies))) in
       p .told ars B es (known-below (below-less (omega arith) (kept-below (f .kept))) known) k (sym (x .0)) (pace (k .pace) (sym (y .0)) (sym (z .0))) (g .0) (fits .line);
-  size = p .size ∙ f .kept .size;
+  below = below-then (kept-below (f .kept)) (below-less (omega arith) (p .below));
 }
   where
     pace : (s : Pace) → s .k ≡ d .value → s .α ≡ e .value → s ≡ pace-of (d .value) (e .value)

@@ -16,7 +16,7 @@ judge-files-requires : tie.Need-judge-files-requires
 judge-files-requires c κs = not-less (says-false _ (c .before .before .is-short .ensures) (c .before .if1 .left))
 
 returns-2 : tie.Need-returns-2
-returns-2 c = let h = not-less (says-false _ (c .before .before .before .before .before .before .before .before .before .is-short .ensures) (c .before .before .before .before .before .before .before .before .if1 .left)) in record { book-bytes = λ i. c .before .before .before .before .before .before .before .before .before .before .before .before .before .shared-slice-known .given i .fits; bytes = λ i. c .before .before .before .before .before .before .before .before .before .before .before .before .shared-slice-known2 .given i .fits; answered = ap paper-verdict (c .before .before .cleared .ensures .0) ∙ c .before .before .before .before .before .before .judge-files .ensures .0 ∙ sym (table-enough _ _ _ h); cleared = left-cleared _ h (c .before .before .cleared .ensures .1 ∙ ap (λ n. replicate n 0) (c .before .before .before .before .before .before .judge-files .ensures .1)) }
+returns-2 c = let h = not-less (says-false _ (c .before .before .before .before .before .before .before .before .before .is-short .ensures) (c .before .before .before .before .before .before .before .before .if1 .left)) in record { book-bytes = λ i. c .before .before .before .before .before .before .before .before .before .before .before .before .before .shared-slice-known .given i .fits; bytes = λ i. c .before .before .before .before .before .before .before .before .before .before .before .before .shared-slice-known2 .given i .fits; answered = ap paper-verdict (c .before .before .cleared .ensures .0) ∙ c .before .before .before .before .before .before .judge-files .ensures .0 ∙ sym (table-enough _ _ _ h); cleared = left-cleared _ h (c .before .before .cleared .ensures .1 ∙ ap (λ n. replicate n 0) (c .before .before .before .before .before .before .judge-files .ensures .1 .0)) }
 
 pub judge-spec : {M : Type 1} → statement M
 judge-spec =

@@ -1,6 +1,7 @@
 -- `judging::judge_files` meets its contract.
 use Rattle.answers.specs.Numbers.{paper-verdict, w-of}
 use Rattle.verdicts.proofs.Layers.{book-long, certificate-long, both-short, book-refused}
+use Rattle.judging.proofs.Opened.{refused-placed}
 use Rattle.layout.proofs.Answering.{opening-shut}
 use Rattle.layout.proofs.Besides.{few-rules, is-beside}
 use lib.ListN.{length-take}
@@ -13,11 +14,11 @@ use Rattle.judging.proofs.judge_files.Tie as tie
 
 returns : tie.Need-returns
 unfolding w-of
-returns c = (refused-verdict _ (c .whole .ensures) ∙ sym (book-long _ _ (c .before .if1 .taken)), refl)
+returns c = (refused-verdict _ (c .whole .ensures) ∙ sym (book-long _ _ (c .before .if1 .taken)), (refl, refused-placed))
 
 returns-2 : tie.Need-returns-2
 unfolding w-of
-returns-2 c = (refused-verdict _ (c .whole2 .ensures) ∙ sym (certificate-long _ _ (c .before .before .if1 .left) (c .before .if2 .taken)), refl)
+returns-2 c = (refused-verdict _ (c .whole2 .ensures) ∙ sym (certificate-long _ _ (c .before .before .if1 .left) (c .before .if2 .taken)), (refl, refused-placed))
 
 array-share-prefix-counts : tie.Need-array-share-prefix-counts
 array-share-prefix-counts c = let h = few-rules (c .before .before .before .before .open-book .ensures) (c .before .m .given .1) in search needs
@@ -30,7 +31,7 @@ judge-certificate-requires c κs = (is-beside (c .before .before .before .before
 
 returns-3 : tie.Need-returns-3
 unfolding paper-verdict
-returns-3 c = (sym (both-short _ _ (c .before .before .before .before .before .before .before .if1 .left) (c .before .before .before .before .before .before .if2 .left) ∙ book-refused _ _ _ (opening-shut _ _ (c .before .before .before .before .open-book .ensures .told) (c .before .r .given .1))), refl)
+returns-3 c = (sym (both-short _ _ (c .before .before .before .before .before .before .before .if1 .left) (c .before .before .before .before .before .before .if2 .left) ∙ book-refused _ _ _ (opening-shut _ _ (c .before .before .before .before .open-book .ensures .told) (c .before .r .given .1))), (refl, refused-placed))
 
 returns-4 : tie.Need-returns-4
 returns-4 c = (c .before .before .judge-certificate .ensures .0 ∙ sym (both-short _ _ (c .before .before .before .before .before .before .before .before .before .before .before .before .if1 .left) (c .before .before .before .before .before .before .before .before .before .before .before .if2 .left)), c .before .before .judge-certificate .ensures .1)

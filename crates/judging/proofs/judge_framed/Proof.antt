@@ -22,7 +22,7 @@ unfolding w-of
 returns-3 c = (refused-verdict _ (c .whole3 .ensures) ∙ sym (input-cut _ (c .before .before .before .before .if1 .left) (omega arith)), refl)
 
 returns-4 : tie.Need-returns-4
-returns-4 c = (handed-parts _ (c .before .before .before .before .before .before .before .book-length .ensures .0) (c .before .before .before .before .before .before .before .before .before .if1 .left) (omega arith) (c .before .before .judge-files .ensures .0), c .before .before .judge-files .ensures .1)
+returns-4 c = (handed-parts _ (c .before .before .before .before .before .before .before .book-length .ensures .0) (c .before .before .before .before .before .before .before .before .before .if1 .left) (omega arith) (c .before .before .judge-files .ensures .0), c .before .before .judge-files .ensures .1 .0)
 
 pub judge-framed-spec : {M : Type 1} → statement M
 judge-framed-spec =
