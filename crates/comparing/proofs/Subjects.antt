@@ -10,7 +10,7 @@ use Rattle.patterns.specs.Certificate.{Mark}
 use Rattle.patterns.specs.First.{Exp, one as edition}
 use Rattle.patterns.specs.Checks.{OnMark}
 use Rattle.patterns.specs.Demand.{same, Met}
-use Rattle.table.specs.Places.{WORDS, OWN, USED, FIRST, SECOND, SIDE, NODES}
+use Rattle.table.specs.Places.{WORDS, OWN, USED, FIRST, SECOND, SIDE}
 use Rattle.table.specs.Nodes.{side}
 use Rattle.table.specs.Sides.{Room}
 use Rattle.table.specs.Marks.{Built}
@@ -30,6 +30,7 @@ use Rattle.instances.specs.Lying.{arities, behind}
 use Rattle.instances.specs.Instances.{Stored, FewNodes, Builds}
 use Rattle.begins.specs.Known.{Below}
 use Rattle.comparing.specs.Subjects.{InstanceAt, fills-of, Means, Sided, Settles, Compares}
+use Rattle.instances.proofs.Instances.{few-done}
 use Rattle.instances.proofs.Terms.{formed-instance}
 use Rattle.begins.proofs.Frames.{below-then, below-less, kept-below, tells-below}
 
@@ -102,10 +103,6 @@ pub sided-as : {book cert w after : List ℕ} {base : ℕ} {a b : Subject} {r : 
 sided-as {book} {cert} {w} {after} {base} {r = r} e s = subst (λ x. Sided book cert base x w after r) (sym e) s
 
 -- ---- two sides compared
-
-pub few-done : {r : Side} {n e : ℕ} → FewNodes r → r ≡ Done n e → n ≤ NODES
-unfolding FewNodes
-few-done f q = rw q at f
 
 stored-done : (base end : ℕ) (m : Mark Exp) (after : List ℕ) {n e : ℕ} {r : Side} → Stored base m end after r → r ≡ Done n e → Built base m after (Count n) × (e ≡ end)
 unfolding Stored

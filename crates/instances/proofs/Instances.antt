@@ -10,7 +10,7 @@ use Rattle.patterns.specs.Term.{Filling, fill, Node, nvar, nfun, npow, nodes}
 use Rattle.patterns.specs.Edition.{reindex}
 use Rattle.patterns.specs.First.{Exp, Pattern, shift, one}
 use Rattle.patterns.specs.Push.{retag, expand}
-use Rattle.table.specs.Places.{SIDE}
+use Rattle.table.specs.Places.{SIDE, NODES}
 use Rattle.table.specs.Nodes.{stack, load}
 use Rattle.table.specs.Sides.{Room, Kept, Stacked, Pushes}
 use Rattle.table.specs.Marks.{Built}
@@ -27,6 +27,7 @@ use Rattle.instances.specs.declared.Header.the-variants.{Variable, Symbo
 use Rattle.instances.specs.declared.Stand.{Stand}
 use Rattle.instances.specs.declared.Turn.{Turn}
 use Rattle.instances.specs.declared.Turn.the-variants.{Over}
+use Rattle.instances.specs.declared.Side.{Side}
 use Rattle.instances.specs.declared.Side.the-variants.{Done, Full}
 use Rattle.instances.proofs.Walks.{walked-term}
 use Rattle.instances.proofs.Entries.{entry-same}
@@ -138,3 +139,9 @@ module _ (book cert w : List ℕ) (fills i j : ℕ) where
     pub built-full : Pushes base 0 whole w v NoRoom → Builds book s cert base at i j fills w v Full
     unfolding Stored FewNodes
     built-full p = record { told = instance-built NoRoom p; few = tt; kept = p .kept }
+
+-- ---- a side that was built
+
+pub few-done : {r : Side} {n e : ℕ} → FewNodes r → r ≡ Done n e → n ≤ NODES
+unfolding FewNodes
+few-done f q = rw q at f

@@ -70,7 +70,7 @@ unfolding stack
 stack-length w base zero = refl
 stack-length w base (suc n) = ap suc (stack-length w base n)
 
-node-kept : (w v : List ℕ) (p : ℕ) → ((k : ℕ) → p ≤ k → k < p + 3 → getD v k 0 ≡ getD w k 0) → nodeAt v p ≡ nodeAt w p
+pub node-kept : (w v : List ℕ) (p : ℕ) → ((k : ℕ) → p ≤ k → k < p + 3 → getD v k 0 ≡ getD w k 0) → nodeAt v p ≡ nodeAt w p
 unfolding nodeAt
 node-kept w v p h =
     rw (h p (omega arith) (omega arith), h (p + 1) (omega arith) (omega arith), h (p + 2) (omega arith) (omega arith))

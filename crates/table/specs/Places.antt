@@ -1,5 +1,5 @@
 -- The places of the work table. The three lists of begins, the words of three fillings and the two sides lie in this order, so that what lives
--- longest lies lowest.
+-- longest lies lowest. A search for an index has the nodes of its call in the first side's place, and its own words in the second's.
 use Prim.Native.Nat.{ℕ}
 
 -- 01: "the work table has fewer than 8,192 64-bit numbers"
@@ -43,3 +43,14 @@ SIDE = 3072
 
 abbrev pub NODES : ℕ
 NODES = 1024
+
+-- where the term of each of a call's nodes ends
+abbrev pub ENDS : ℕ
+ENDS = 4096
+
+-- the 64 words of bindings, one for each variable of a pattern: the call's node where its term begins; and how much of that node is used up
+abbrev pub BOUND : ℕ
+BOUND = 5120
+
+abbrev pub OFF : ℕ
+OFF = 5184

@@ -26,6 +26,14 @@ pub const FIRST: usize = 1024;
 
 pub const SECOND: usize = 4096;
 
+// A search for an index has the nodes of its call at FIRST, and from SECOND on: where the term of each node ends; for each variable of a
+// pattern the call's node where its term begins, and how much of that node is used up.
+pub const ENDS: usize = 4096;
+
+pub const BOUND: usize = 5120;
+
+pub const OFF: usize = 5184;
+
 // How many words the table has, and how many nodes a side.
 pub const WORDS: usize = 8192;
 
@@ -45,7 +53,7 @@ pub enum Pushed {
 }
 
 // A product of two small numbers.
-fn times(a: u16, i: u16) -> u64
+pub fn times(a: u16, i: u16) -> u64
     ensures { λ r. ⌜ (r ≡ a * i) × (r < 2 ^ 32) ⌝ }
 {
     (a as u64) * (i as u64)
