@@ -59,3 +59,29 @@ mutual
 
 pub all-largest : (c : Pattern) → All (λ e. number e ≤ largest (nodes c)) c
 all-largest c = all-below c (largest (nodes c)) (omega arith)
+
+-- and it is no larger than they allow
+largest-append : (ns ms : List (Node Exp)) (k : ℕ) → largest ns ≤ k → largest ms ≤ k → largest (ns ++ ms) ≤ k
+unfolding largest
+largest-append [] ms k p q = q
+largest-append (nvar x ∷ ns) ms k p q = largest-append ns ms k p q
+largest-append (nfun f ∷ ns) ms k p q = largest-append ns ms k p q
+largest-append (npow s e ∷ ns) ms k p q =
+    let b = both-below (number e) (largest ns) k p in
+    larger-below (number e) (largest (ns ++ ms)) k (b .0) (largest-append ns ms k (b .1) q)
+
+mutual
+  unfolding nodes All largest
+
+  below-all : (c : Pattern) (k : ℕ) → All (λ e. number e ≤ k) c → largest (nodes c) ≤ k
+  below-all (var x) k a = omega arith
+  below-all (fun f ts) k a = below-all* ts k a
+  below-all (pow s e t) k a = larger-below (number e) (largest (nodes t)) k (a .0) (below-all t k (a .1))
+
+  below-all* : (cs : Terms Exp) (k : ℕ) → All* (λ e. number e ≤ k) cs → largest (nodes* cs) ≤ k
+  below-all* nil k a = omega arith
+  below-all* (cons t ts) k a = largest-append (nodes t) (nodes* ts) k (below-all t k (a .0)) (below-all* ts k (a .1))
+
+-- 02: "a call's exponents end there"
+pub largest-small : (c : Pattern) → All (λ e. number e ≤ 4095) c → largest (nodes c) ≤ 4095
+largest-small c a = below-all c 4095 a
