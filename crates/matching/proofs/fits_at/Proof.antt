@@ -1,0 +1,57 @@
+-- `matching::fits_at` meets its contract.
+use Rattle.matching.proofs.Walking.{forgot-spans, forgot-fits, Walking, walking-start, walking-spans, walking-over, walking-off, walking-on}
+use native.Mathlib.Omega.{arith}
+use borrow.Author.Needs.{needs}
+use Rattle.instances.proofs.Goings.{going-left, going-named}
+use Rattle.matching.proofs.fits_at.Statement.{statement}
+use Rattle.matching.proofs.fits_at.Tie as tie
+
+abbrev Inv-loop : tie.InvT-loop
+Inv-loop book s w₀ k at i place₀ p₀ left₀ w place p left = Walking book s k at i w₀ w place left p
+
+abbrev μ-loop : tie.MeasureT-loop
+μ-loop book s w₀ k at i place₀ p₀ left₀ w place p left = left
+
+forget-requires : tie.Need-forget-requires Inv-loop μ-loop
+forget-requires c κs = omega (arith, c .before .before .before .before .pre .long)
+
+loop-holds : tie.Need-loop-holds Inv-loop μ-loop
+loop-holds c = walking-start _ _ _ _ _ _ (forgot-spans (c .before .before .forget .ensures) (c .before .before .before .before .before .before .before .pre)) (c .before .before .forget .ensures .none)
+
+step-requires : tie.Need-step-requires Inv-loop μ-loop
+step-requires c κs = c .loop .inv .going .few
+
+returns : tie.Need-returns Inv-loop μ-loop
+returns c = forgot-fits (c .before .before .before .before .before .before .forget .ensures) (c .before .before .before .before .before .before .before .before .before .before .before .pre .few) (walking-over _ _ _ _ _ _ (forgot-spans (c .before .before .before .before .before .before .forget .ensures) (c .before .before .before .before .before .before .before .before .before .before .before .pre)) (c .before .before .before .loop .inv) (c .before .before .step .ensures) (c .enum-told .given .1))
+
+match-node-requires : tie.Need-match-node-requires Inv-loop μ-loop
+match-node-requires c κs = (walking-spans _ _ _ _ _ _ (forgot-spans (c .before .before .before .before .before .before .before .before .forget .ensures) (c .before .before .before .before .before .before .before .before .before .before .before .before .before .pre)) (c .before .before .before .before .before .loop .inv), c .before .before .before .before .before .loop .inv .inside, going-named (c .before .before .before .before .before .loop .inv .going) (c .before .before .before .before .step .ensures) (c .before .before .header .given .1))
+
+returns-2 : tie.Need-returns-2 Inv-loop μ-loop
+returns-2 c = forgot-fits (c .before .before .before .before .before .before .before .before .before .before .before .before .before .forget .ensures) (c .before .before .before .before .before .before .before .before .before .before .before .before .before .before .before .before .before .before .pre .few) (walking-off _ _ _ _ _ _ (forgot-spans (c .before .before .before .before .before .before .before .before .before .before .before .before .before .forget .ensures) (c .before .before .before .before .before .before .before .before .before .before .before .before .before .before .before .before .before .before .pre)) (c .before .before .before .before .before .before .before .before .before .before .loop .inv) (c .before .before .before .before .before .before .before .before .before .step .ensures) (c .before .before .before .before .before .before .before .header .given .1) (c .before .before .before .before .match-node .ensures) (c .enum-told2 .given .1))
+
+sub-left : tie.Need-sub-left Inv-loop μ-loop
+sub-left c = going-left (c .before .before .before .before .before .before .before .before .before .before .before .loop .inv .going) (c .before .before .before .before .before .before .before .before .before .before .step .ensures) (c .before .before .before .before .before .before .before .before .header .given .1)
+
+loop-less : tie.Need-loop-less Inv-loop μ-loop
+loop-less c = omega (arith, going-left (c .before .before .before .before .before .before .before .before .before .before .before .loop .inv .going) (c .before .before .before .before .before .before .before .before .before .before .step .ensures) (c .before .before .before .before .before .before .before .before .header .given .1))
+
+loop-again : tie.Need-loop-again Inv-loop μ-loop
+loop-again c = walking-on _ _ _ _ _ _ (forgot-spans (c .before .before .before .before .before .before .before .before .before .before .before .before .before .before .forget .ensures) (c .before .before .before .before .before .before .before .before .before .before .before .before .before .before .before .before .before .before .before .pre)) (c .before .before .before .before .before .before .before .before .before .before .before .loop .inv) (c .before .before .before .before .before .before .before .before .before .before .step .ensures) (c .before .before .before .before .before .before .before .before .header .given .1) (c .before .before .before .before .before .match-node .ensures) (c .before .next .given .1)
+
+pub fits-at-spec : {M : Type 1} → statement M
+fits-at-spec =
+    tie.close (tie.spec
+    Inv-loop
+    μ-loop
+    forget-requires
+    loop-holds
+    step-requires
+    (λ c. search needs) (λ c. search needs) (λ c. search needs)
+    returns
+    match-node-requires
+    (λ c. search needs) (λ c. search needs) (λ c. search needs)
+    returns-2
+    sub-left
+    loop-less
+    loop-again)
