@@ -232,9 +232,9 @@ impl Family<'_> {
         *random.pick(&[self.alpha, near, near, last, any])
     }
 
-    /// Terms for all variables, and for the four last ones.
+    /// Terms for all variables.
     fn filling(&self, joining: bool, random: &mut Random) -> Filling {
-        let mut names = BTreeSet::from([60, 61, 62, 63]);
+        let mut names = BTreeSet::new();
         self.pattern.collect_variables(&mut names);
         names.into_iter().map(|name| (name, self.any_term(joining, random))).collect()
     }
@@ -252,20 +252,17 @@ impl Family<'_> {
     fn full(&self, random: &mut Random) -> Option<Term> {
         let index = self.any_index(random);
         let mut filling = self.filling(false, random);
-        let mut names = BTreeSet::new();
-        self.pattern.collect_variables(&mut names);
-        let name = *names.first()?;
-        let place = filling.iter().position(|(listed, _)| *listed == name)?;
+        let last = filling.len().checked_sub(1)?;
         let unary: Vec<u8> = of_arity(self.arities, 1);
         let wanted = random.between(254, 257) as usize;
         let [one, other] = [*unary.first()?, *unary.last()?];
         while one != other && self.at(index, &filling).nodes() < wanted {
-            let below = filling[place].1.clone();
+            let below = filling[last].1.clone();
             let symbol = match below {
                 Term::Pow { symbol, .. } if symbol == one => other,
                 _ => one,
             };
-            filling[place].1 = Term::pow(symbol, 0, random.between(1, 4_095), below);
+            filling[last].1 = Term::pow(symbol, 0, random.between(1, 4_095), below);
         }
         let call = self.at(index, &filling);
         ((254..=260).contains(&call.nodes()) && numbers_fit(&call)).then_some(call)
@@ -284,7 +281,6 @@ impl Family<'_> {
         let mut pattern = self.pattern.clone();
         rename_one(&mut pattern, name, fresh, &mut { random.below(count) });
         let mut filling = self.filling(true, random);
-        filling.retain(|(listed, _)| *listed != fresh);
         let mut term = filling.iter().find(|(listed, _)| *listed == name)?.1.clone();
         match random.below(2) {
             0 => nudge(&mut term, self.arities, random)?,

@@ -180,13 +180,13 @@ fn all_small_cases_agree_with_plain_terms() {
     let mut met = [0; 10];
     for pattern in &patterns {
         let steady = pattern.is_constant_in_the_index();
-        for index in 0..met.len() {
+        for (index, count) in met.iter_mut().enumerate() {
             let at_index = plain(pattern, index as u64);
             for (call, spelled) in &calls {
                 let expected = has_filling(&at_index, spelled, &arities);
                 let found = is_call_at(pattern, index as u64, call);
                 assert_eq!(found, expected, "{pattern:?} at {index}, {call:?}");
-                met[index] += usize::from(found && !steady);
+                *count += usize::from(found && !steady);
             }
         }
     }

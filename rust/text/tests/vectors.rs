@@ -6,14 +6,21 @@ use second::files::{parse_both, parse_call};
 use second::replay::{has_filling, PlainFilling};
 use std::collections::BTreeSet;
 use std::path::{Path, PathBuf};
+use std::sync::OnceLock;
 use text::vectors::{expected_output, pack_vectors, parse_vectors, File, Operation, Vector};
 
 fn top() -> PathBuf {
     Path::new(env!("CARGO_MANIFEST_DIR")).join("../..")
 }
 
-/// All vectors, the files in the order of their names.
+/// All vectors, read once.
 fn vectors() -> Vec<Vector> {
+    static ALL: OnceLock<Vec<Vector>> = OnceLock::new();
+    ALL.get_or_init(read_vectors).clone()
+}
+
+/// All vectors, the files in the order of their names.
+fn read_vectors() -> Vec<Vector> {
     let folder = std::fs::read_dir(top().join("data")).unwrap();
     let mut files: Vec<PathBuf> = folder.map(|entry| entry.unwrap().path()).collect();
     files.sort();
