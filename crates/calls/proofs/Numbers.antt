@@ -63,9 +63,6 @@ larger-none n = go (decLe n 0)
     go (yes p) = sym (larger-second n 0 p) ∙ omega arith
     go (no p) = sym (larger-first n 0 (omega arith))
 
-zero-larger : (n : ℕ) → larger 0 n ≡ n
-zero-larger n = sym (larger-second 0 n (omega arith))
-
 -- ---- a node, and a node behind others
 
 pub largest-power : (w : List ℕ) (at : ℕ) → getD w at 0 % 3 ≡ 2 → getD w (at + 2) 0 ≡ largest (nodeAt w at ∷ [])
