@@ -1,0 +1,1 @@
+// Whether a call is in the family of an accepted certificate.
