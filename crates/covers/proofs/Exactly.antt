@@ -54,6 +54,16 @@ module _ {book certificate call : List ℕ} {size : ℕ} where
       (left-formed (a .rule-book) (a .tree) (a .certificate-file .limits) (g .line) (g .claim) (g .named))
       (g .call-file .limits .formed) (is-call (g .call-file .limits)) o
 
+-- the line that an accepted certificate names is there
+pub named-claim : {book certificate : List ℕ} {size line : ℕ} {pace : Pace} (a : Acceptable book certificate size line pace)
+    → (p : Claim Exp) × (getElem? (map claim-of (a .tree .lines)) line ≡ some p)
+named-claim {book} {certificate} {size} {line} {pace} a =
+    let n =
+    accepted-never-stuck (a .rule-book .rules) (book-fixed (a .rule-book) (a .book-file .limits)) (a .tree) line (pace .k) (pace .α)
+    (sym (trees-judged book certificate size (a .table) (a .rule-book) (a .book-file) (a .tree) (a .certificate-file))
+    ∙ acceptable-accepted book certificate size line pace a) in
+    (n .0, n .1)
+
 -- the fault of a call beside its book
 abbrev CallFault : {book certificate : List ℕ} {size line : ℕ} {pace : Pace} → Acceptable book certificate size line pace → List ℕ
     → Reason → Type 0
@@ -67,16 +77,6 @@ data Way (book certificate call : List ℕ) (size : ℕ) : Type 0 where
   asked : Asked book certificate call size → Way book certificate call size
 
 module _ (book certificate call : List ℕ) (is-book : Bytes book) (is-certificate : Bytes certificate) (is-bytes : Bytes call) (size : ℕ) where
-  -- the line that an accepted certificate names is there
-  named-claim : {line : ℕ} {pace : Pace} (a : Acceptable book certificate size line pace)
-      → (p : Claim Exp) × (getElem? (map claim-of (a .tree .lines)) line ≡ some p)
-  named-claim {line} {pace} a =
-      let n =
-      accepted-never-stuck (a .rule-book .rules) (book-fixed (a .rule-book) (a .book-file .limits)) (a .tree) line (pace .k) (pace .α)
-      (sym (trees-judged book certificate size (a .table) (a .rule-book) (a .book-file) (a .tree) (a .certificate-file))
-      ∙ acceptable-accepted book certificate size line pace a) in
-      (n .0, n .1)
-
   shut-told : {line : ℕ} {pace : Pace} (a : Acceptable book certificate size line pace) (r : Reason) → CallFault a call r
       → asking book certificate call size ≡ denied r
   shut-told {line} {pace} a r f =

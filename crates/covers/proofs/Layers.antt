@@ -11,7 +11,7 @@ use Rattle.patterns.specs.Certificate.{Claim, Certificate, claim-of}
 use Rattle.patterns.specs.Judge.{accept, refuse}
 use Rattle.covering.specs.Search.{covering}
 use Rattle.grammar.specs.Books.{RuleBook, arity-in}
-use Rattle.layout.specs.Files.{good, bad, open-book, open-certificate, open-call}
+use Rattle.layout.specs.Files.{good, bad, where-good, open-book, open-certificate, open-call}
 use Rattle.verdicts.specs.Judging.{judging}
 use Rattle.covers.specs.Asking.{told-index, asking-line, asking-accepted, asking-judged, asking}
 
@@ -36,3 +36,10 @@ module _ (book certificate call : List ℕ) (line : ℕ) (pace : Pace) (b : Rule
       → asking-accepted book certificate call line pace ≡ told-index (covering (arity-in (b .arities)) (p .left) (pace .α) c)
   unfolding asking-accepted asking-line
   call-asked c hs e p named = rw (opened, beside, e, named)
+
+  -- where the named line is known, the call alone is asked for
+  pub call-placed : (p : Claim Exp) → getElem? (map claim-of (K .lines)) line ≡ some p
+      → (where-good denied (open-call b call) λ c. told-index (covering (arity-in (b .arities)) (p .left) (pace .α) c))
+      ≡ asking-accepted book certificate call line pace
+  unfolding asking-accepted asking-line
+  call-placed p named = rw (opened, beside, named)

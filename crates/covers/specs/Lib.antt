@@ -2,3 +2,4 @@
 pub mod Asking
 pub mod Covered
 pub mod Told
+pub mod Stages
