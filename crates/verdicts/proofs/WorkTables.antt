@@ -64,7 +64,7 @@ inside B es a (l ∷ ls) c =
     (every-map Inside (place one line-place a) (line-checks one es B (l .claim) (l .kind)) (every-one _ (λ k. omega arith) _))
     (inside B (es ++ (l .claim ∷ [])) (suc a) ls c)
 
-broken-inside : (B : Book Exp) (K : Certificate Exp Pair Pace) (r : Reason) → FirstBroken one B K r → r .w < neither-place
+pub broken-inside : (B : Book Exp) (K : Certificate Exp Pair Pace) (r : Reason) → FirstBroken one B K r → r .w < neither-place
 unfolding checks Every
 broken-inside B K r f =
     let all = subst (Every Inside) (f .whole) (inside B [] 0 (K .lines) (K .closing)) in
