@@ -1,6 +1,7 @@
 // Runs the packed vectors that standard input holds, and prints a line for each: its name, the answer, and the sum of
 // what the call left in the memory lent to it.
 use answers::Answer;
+use answers::Coverage;
 use answers::Verdict;
 use libc::STDIN_FILENO;
 use libc::STDOUT_FILENO;
@@ -9,13 +10,14 @@ ghost use Prim.Native.Nat.{_≤_};
 ghost use lib.ListN.{length};
 ghost use Rattle.io.specs.Counts.{Counts};
 
-// What stands before a vector's name and its two files: the operation, and the length of each part.
+// What stands before a vector's name and its files: the operation, and the length of each part.
 struct Head {
     operation: u8,
     name: u8,
     room: u16,
     first: u16,
     second: u16,
+    third: u16,
 }
 
 // ---- memory to lend; the contracts give the lengths, which lending asks for
@@ -73,15 +75,31 @@ fn fill(part: &mut [u8], n: usize)
     io::read_full(STDIN_FILENO, &mut part[..n]);
 }
 
+fn read_number() -> u16 {
+    let mut two = [0u8; 2];
+    io::read_full(STDIN_FILENO, &mut two);
+    number(two[0], two[1])
+}
+
+// The length of the third file, which only a question for a call has.
+fn read_third(operation: u8) -> u16 {
+    match operation {
+        6 => read_number(),
+        _ => 0,
+    }
+}
+
 fn read_head() -> Head {
     let mut head = [0u8; 8];
     io::read_full(STDIN_FILENO, &mut head);
+    let operation = head[0];
     Head {
-        operation: head[0],
+        operation,
         name: head[1],
         room: number(head[2], head[3]),
         first: number(head[4], head[5]),
         second: number(head[6], head[7]),
+        third: read_third(operation),
     }
 }
 
@@ -172,6 +190,17 @@ fn print_answer(said: Answer) {
     }
 }
 
+// Prints what is answered for a call.
+fn print_coverage(coverage: Coverage) {
+    match coverage {
+        Coverage::Covered(i) => {
+            io::write_all(STDOUT_FILENO, b"covered ");
+            io::print_decimal(STDOUT_FILENO, i as u64);
+        }
+        Coverage::Refused(r) => print_verdict(Verdict::Refused(r)),
+    }
+}
+
 // Prints the sum of what was left, and ends the line.
 fn print_left(sum: u64) {
     io::write_all(STDOUT_FILENO, b" left ");
@@ -179,7 +208,7 @@ fn print_left(sum: u64) {
     io::write_all(STDOUT_FILENO, b"\n");
 }
 
-// ---- the operations: 0 and 1 judge, 2 and 3 read, 4 and 5 write
+// ---- the operations: 0 and 1 judge, 2 and 3 read, 4 and 5 write, 6 asks for a call
 
 fn judge_files(operation: u8, first: &[u8], second: &[u8], work: &mut [u64]) -> Verdict {
     match operation {
@@ -244,11 +273,22 @@ fn run_write(operation: u8, room: u16, first: &[u8], second: &[u8]) {
     print_left(sum_of(&numbers, &fields, out, n));
 }
 
-fn run(operation: u8, room: u16, first: &[u8], second: &[u8]) {
+fn run_covers(room: u16, first: &[u8], second: &[u8], third: &[u8]) {
+    let mut space = numbers();
+    let n = room as usize;
+    let work = &mut space[..n];
+    print_coverage(covers::covers(first, second, third, work));
+    let fields = [0u16; 0];
+    let bytes = [0u8; 0];
+    print_left(sum_of(work, &fields, &bytes, n));
+}
+
+fn run(operation: u8, room: u16, first: &[u8], second: &[u8], third: &[u8]) {
     match operation {
         0 | 1 => run_judge(operation, room, first, second),
         2 | 3 => run_read(operation, room, first, second),
-        _ => run_write(operation, room, first, second),
+        4 | 5 => run_write(operation, room, first, second),
+        _ => run_covers(room, first, second, third),
     }
 }
 
@@ -263,13 +303,14 @@ fn run_next() {
     fill(&mut first, n);
     let mut second = file();
     fill(&mut second, m);
-    run(operation, head.room, &first[..n], &second[..m]);
+    let k = file_length(head.third, false);
+    let mut third = file();
+    fill(&mut third, k);
+    run(operation, head.room, &first[..n], &second[..m], &third[..k]);
 }
 
 fn main() {
-    let mut count = [0u8; 2];
-    io::read_full(STDIN_FILENO, &mut count);
-    let mut left = number(count[0], count[1]);
+    let mut left = read_number();
     while left > 0 {
         run_next();
         left -= 1;

@@ -1,7 +1,9 @@
-// The judge, the readers and the writers, for C and Rust. An answer is told by five numbers. A refusal is 1, its
-// number, W, A and B. A verdict that accepts is 0, the line, k, α and 0; a file that was read or written is 0, how
-// many places were filled and three zeros.
+// The judge, the question whether a call is covered, the readers and the writers, for C and Rust. An answer is told by
+// five numbers. A refusal is 1, its number, W, A and B. A verdict that accepts is 0, the line, k, α and 0; a call that
+// is covered is 0, the index and three zeros; a file that was read or written is 0, how many places were filled and
+// three zeros.
 use answers::Answer;
+use answers::Coverage;
 use answers::Refusal;
 use answers::Verdict;
 ghost use mathlib.Core.Path.{_≡_};
@@ -12,9 +14,14 @@ ghost use Rattle.layout.specs.Answers.{
   reading-certificate,
   writing-certificate,
 };
-ghost use Rattle.answers.specs.Numbers.{paper-refusal, paper-verdict, paper-answer};
-ghost use Rattle.embed.specs.Numbers.{refusal-numbers, answer-numbers, verdict-numbers};
-ghost use Rattle.embed.specs.Promises.{FileTold, JudgeTold};
+ghost use Rattle.answers.specs.Numbers.{paper-refusal, paper-verdict, paper-answer, paper-coverage};
+ghost use Rattle.embed.specs.Numbers.{
+  refusal-numbers,
+  answer-numbers,
+  verdict-numbers,
+  coverage-numbers,
+};
+ghost use Rattle.embed.specs.Promises.{FileTold, JudgeTold, CallTold};
 
 // The numbers of a refusal.
 fn refusal_numbers(r: Refusal) -> [u64; 5]
@@ -46,6 +53,16 @@ fn verdict_numbers(verdict: Verdict) -> [u64; 5]
     }
 }
 
+// The numbers of what is answered for a call.
+fn coverage_numbers(coverage: Coverage) -> [u64; 5]
+    ensures { λ n. ⌜ n ≡ coverage-numbers (paper-coverage coverage) ⌝ }
+{
+    match coverage {
+        Coverage::Covered(i) => [0, i as u64, 0, 0, 0],
+        Coverage::Refused(r) => refusal_numbers(r),
+    }
+}
+
 // Judges a certificate over its book.
 #[no_mangle]
 pub extern "C" fn gearcinder_judge(
@@ -57,6 +74,20 @@ pub extern "C" fn gearcinder_judge(
     ensures { λ _. ⌜ JudgeTold (now (book .entry)) (now (certificate .entry)) (now (work .entry)) (now (work .exit)) (now (answer .exit)) ⌝ }
 {
     *answer = verdict_numbers(judging::judge(book, certificate, work));
+}
+
+// Asks whether a call is in the family of an accepted certificate, and at which index from its start on first.
+#[no_mangle]
+pub extern "C" fn gearcinder_covers(
+    book: &[u8],
+    certificate: &[u8],
+    call: &[u8],
+    work: &mut [u64],
+    answer: &mut [u64; 5],
+)
+    ensures { λ _. ⌜ CallTold (now (book .entry)) (now (certificate .entry)) (now (call .entry)) (now (work .entry)) (now (work .exit)) (now (answer .exit)) ⌝ }
+{
+    *answer = coverage_numbers(covers::covers(book, certificate, call, work));
 }
 
 // Reads a book's bytes into a list of its fields.

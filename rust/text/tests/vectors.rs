@@ -35,16 +35,9 @@ fn read_vectors() -> Vec<Vector> {
         .collect()
 }
 
-/// The vectors that the program `cases` runs: it doesn't know `covers` yet.
-fn packed_ones() -> Vec<Vector> {
-    let mut vectors = vectors();
-    vectors.retain(|vector| vector.operation != Operation::Covers);
-    vectors
-}
-
 #[test]
 fn they_are_packed_as_they_stand() {
-    let vectors = packed_ones();
+    let vectors = vectors();
     let stored = |name: &str| std::fs::read(top().join("crates/cases").join(name)).unwrap();
     let again = "pack them again: docs/TEXT.md, Vectors";
     assert!(pack_vectors(&vectors) == stored("stdin"), "{again}");
