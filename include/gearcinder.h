@@ -9,7 +9,7 @@
  * Each function writes its answer, five numbers, whatever it is given. The first is
  * 0 if all is well and 1 for a refusal; then the other four are the refusal's
  * number, W, A and B. W says what the refusal speaks of: 0 the book, 1 the
- * certificate, 2 a line, 3 the closing, 4 neither.
+ * certificate, 2 a line, 3 the closing, 4 neither, 5 the call.
  *
  * What an accepted certificate means. For every number of steps, every call of the
  * family (the named line's left, at an index from alpha on, its variables filled by
@@ -44,6 +44,18 @@ void gearcinder_judge(const uint8_t *book, size_t book_length,
                       const uint8_t *certificate, size_t certificate_length,
                       uint64_t *work, size_t work_length,
                       uint64_t answer[GEARCINDER_ANSWER_NUMBERS]);
+
+/* Asks whether a call is in the family that an accepted certificate names: 0, index,
+ * 0, 0, 0 if it is the named line's left at this index, its variables filled by some
+ * terms; the index is the smallest such one from alpha on. The certificate is judged
+ * first: if it is refused, that is the answer. Then the call is read, one term packed
+ * as a file, of any length; 3 to 7 with W = 5 speak of it. A call that is not in the
+ * family is refused with 17. The work table is as above. */
+void gearcinder_covers(const uint8_t *book, size_t book_length,
+                       const uint8_t *certificate, size_t certificate_length,
+                       const uint8_t *call, size_t call_length,
+                       uint64_t *work, size_t work_length,
+                       uint64_t answer[GEARCINDER_ANSWER_NUMBERS]);
 
 /* The next four answer 0, the number of places filled, 0, 0, 0. The rest of the
  * output is kept; a refusal keeps it whole. */

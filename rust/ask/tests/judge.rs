@@ -58,6 +58,10 @@ fn asked_by_the_text_tool() {
     let refused = run(&["judge", "book", "book"]);
     assert_eq!(refused.status.code(), Some(1));
     assert!(said(&refused.stdout).starts_with("refuse "));
+    let asked = ["covers", "book.txt", "certificate", "--term", "while(s^{0,2}(X), s(0))"];
+    let covered = run(&asked);
+    assert_eq!(covered.status.code(), Some(0));
+    assert!(said(&covered.stdout).starts_with("covered 1\ncovered at index 1"));
     let unread = run(&["judge", "book", "nowhere"]);
     assert_eq!(unread.status.code(), Some(2));
     assert!(said(&unread.stderr).starts_with("nowhere: "));
@@ -125,6 +129,51 @@ fn refused() {
     std::fs::write(folder.join("long"), vec![0; 16_385]).unwrap();
     let expected = "refuse 2 0 0 0\nrefused with 2 in the book: it has over 16,384 bytes\n";
     answers(run(&folder, &["long", "certificate"]), 1, expected);
+}
+
+/// A call of the document's example, as a term, as text and packed.
+#[test]
+fn covered() {
+    let folder = folder("covered");
+    let put = |name: &str, bytes: &[u8]| std::fs::write(folder.join(name), bytes).unwrap();
+    let term = "while(s^{0,4}(0), s^{0,3}(0))";
+    let names = text::names_in(BOOK).unwrap();
+    let book = std::fs::read(folder.join("book")).unwrap();
+    put("call", &text::pack_call_named(&book, Some(&names), term).unwrap());
+    put("call.txt", term.as_bytes());
+    let expected = "covered 3\ncovered at index 3: left of line 4, at this index and filled, is \
+                    the call\n";
+    let files = ["covers", "book.txt", "certificate"];
+    for call in [&["call"][..], &["call.txt"], &["--term", term]] {
+        answers(run(&folder, &[&files, call].concat()), 0, expected);
+    }
+    let by_number = "f4(u1^{0,4}(c2), u1^{0,3}(c2))";
+    answers(run(&folder, &["covers", "book", "certificate", "--term", by_number]), 0, expected);
+    let input = std::fs::File::open(folder.join("call")).unwrap();
+    let words = ["covers", "book", "certificate", "-"];
+    answers(tool(&folder, &words).stdin(input).output().unwrap(), 0, expected);
+
+    let not = "refuse 17 4 0 0\nnot covered: left of line 4 is not the call at any index from 1 \
+               on, however it is filled\n";
+    let no = [&files[..], &["--term", "while(s(0), 0)"]].concat();
+    answers(run(&folder, &no), 1, not);
+    put("long", &[std::fs::read(folder.join("call")).unwrap(), vec![0]].concat());
+    let left = "refuse 7 5 98 0\nrefused with 7 in the call, at bit 98: something is left over \
+                behind the last field\n";
+    answers(run(&folder, &["covers", "book", "certificate", "long"]), 1, left);
+    let judged = run(&folder, &["covers", "book", "book", "call"]);
+    assert!(said(&judged.stdout).starts_with("refuse "));
+    assert_eq!(judged.status.code(), Some(1));
+
+    let wrong = run(&folder, &[&files[..], &["--term", "while(s^{1,4}(0), 0)"]].concat());
+    let message = "the term:1:10: expected a = 0 in a call, found `1` (refuse 4 5 4 0)\n";
+    stops(wrong, message);
+    let missing = "nowhere: No such file or directory (os error 2)\n";
+    stops(run(&folder, &["covers", "book", "certificate", "nowhere"]), missing);
+    let help = run(&folder, &["help"]);
+    for words in [&["covers", "book", "certificate"][..], &["covers", "a", "b", "--term"]] {
+        stops(run(&folder, words), said(&help.stdout));
+    }
 }
 
 #[test]

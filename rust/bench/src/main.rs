@@ -1,15 +1,16 @@
 //! Times the proved judge between the second one and the swift one, on the same inputs in
-//! one run.
+//! one run; and the proved `covers` beside the second one.
 //!
-//!     bench [SECONDS]       the table; so many seconds for each input (3)
+//!     bench [SECONDS]       the tables; so many seconds for each input (3)
 //!     bench once JUDGE NAME    judges one input once, for a profiler
 //!
-//! JUDGE is second, proved or swift. All three are lent a work table of 8,192 numbers and
+//! JUDGE is second, proved or, of a judgement, swift. All three are lent a work table of 8,192 numbers and
 //! leave zeros in it. The swift judge's own memory is allocated before it is timed.
 //!
 //! Build it by the profile bench-release: that has no overflow checks and no debug
 //! assertions, which the tests have.
 
+mod calls;
 mod nodes;
 
 use nodes::{nodes_built, nodes_read};
@@ -26,14 +27,15 @@ fn main() -> ExitCode {
     let words: Vec<&str> = arguments.iter().map(String::as_str).collect();
     let vectors = parse_vectors(INPUTS).expect("the inputs are what they say");
     match words[..] {
-        [] => table(&vectors, 3.0),
+        [] => tables(&vectors, 3.0),
         [seconds] => match seconds.parse() {
-            Ok(seconds) => table(&vectors, seconds),
+            Ok(seconds) => tables(&vectors, seconds),
             Err(_) => return help(&vectors),
         },
         ["once", judge, name] => {
             let input = vectors.iter().find(|vector| vector.name == name);
-            match input.and_then(|input| answer_of(judge, input)) {
+            let judged = input.and_then(|input| answer_of(judge, input));
+            match judged.or_else(|| calls::answer(judge, name)) {
                 Some(answer) => println!("{answer}"),
                 None => return help(&vectors),
             }
@@ -44,7 +46,9 @@ fn main() -> ExitCode {
 }
 
 fn help(vectors: &[Vector]) -> ExitCode {
-    let names: Vec<&str> = vectors.iter().map(|vector| vector.name.as_str()).collect();
+    let asked = calls::inputs();
+    let all = vectors.iter().chain(&asked);
+    let names: Vec<&str> = all.map(|vector| vector.name.as_str()).collect();
     let judges = JUDGES.join("|");
     eprintln!("bench [SECONDS]\nbench once {judges} NAME\nNAME: {}", names.join(", "));
     ExitCode::from(2)
@@ -91,6 +95,12 @@ fn swift_judgement(
     work: &mut [u64],
 ) -> swift::Verdict {
     judge.judge(book, certificate, work)
+}
+
+fn tables(vectors: &[Vector], seconds: f64) {
+    table(vectors, seconds);
+    println!();
+    calls::table(seconds);
 }
 
 fn table(vectors: &[Vector], seconds: f64) {

@@ -3,11 +3,24 @@
 use crate::lent::{noise, Lent, Word};
 use crate::Compared;
 use gearcinder::raw::{self, Numbers};
+use generate::calls::Asking;
 use generate::random::Random;
 use second::judging::WORK_NUMBERS;
-use second::{Answer, Refusal, Verdict};
+use second::{Answer, Coverage, Refusal, Verdict};
 
-/// Calls all five functions on these files and their fields, with room for everything.
+/// Asks for a call, with room for everything.
+pub fn coverage_in_numbers(asking: &Asking, random: &mut Random) -> Compared<()> {
+    let Asking { book, certificate, call, .. } = asking;
+    let work: Vec<u64> = noise(WORK_NUMBERS, random);
+    one_call(
+        &work,
+        random,
+        |work| coverage_numbers(second::covers(book, certificate, call, work)),
+        |work, answer| raw::covers(book, certificate, call, work, answer),
+    )
+}
+
+/// Calls the other five functions on these files and their fields, with room for everything.
 pub fn answers_in_numbers(book: &[u8], certificate: &[u8], random: &mut Random) -> Compared<()> {
     // No field is narrower than a bit.
     let room = 8 * (book.len() + certificate.len());
@@ -87,6 +100,13 @@ fn answer_numbers(answer: Answer) -> Numbers {
     match answer {
         Answer::Filled(count) => [0, count as u64, 0, 0, 0],
         Answer::Refused(refusal) => refusal_numbers(refusal),
+    }
+}
+
+fn coverage_numbers(coverage: Coverage) -> Numbers {
+    match coverage {
+        Coverage::Covered { index } => [0, index, 0, 0, 0],
+        Coverage::Refused(refusal) => refusal_numbers(refusal),
     }
 }
 

@@ -1,6 +1,8 @@
 //! What the inputs met, and what they have to meet.
 
 use crate::files::name_of;
+use generate::asked::{labels, wanted};
+use generate::calls::Asking;
 use generate::tally::part_in_words;
 use generate::writing::Task;
 use second::{Answer, Refusal, Verdict};
@@ -41,6 +43,12 @@ impl Coverage {
         match answer {
             Answer::Filled(_) => self.count(format!("{}: filled", name_of(task))),
             Answer::Refused(refusal) => self.count(without_part(name_of(task), refusal)),
+        }
+    }
+
+    pub fn asked(&mut self, asking: &Asking, coverage: &second::Coverage) {
+        for label in labels(asking, coverage) {
+            self.count(format!("covers: {label}"));
         }
     }
 
@@ -107,6 +115,12 @@ pub fn wanted_of_judging() -> Vec<String> {
         wanted.push(format!("16, {side}"));
     }
     wanted.into_iter().map(|label| format!("judge: {label}")).collect()
+}
+
+/// What calls have to meet, and a short work table.
+pub fn wanted_of_calls() -> Vec<String> {
+    let own = wanted().into_iter().chain([" 1 neither".to_string()]);
+    own.map(|label| format!("covers: {label}")).collect()
 }
 
 /// Every refusal number and place that reading and writing can give.

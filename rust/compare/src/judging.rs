@@ -25,7 +25,7 @@ pub fn files_of(input: &Input) -> (&[u8], &[u8]) {
 }
 
 /// Mostly just long enough; now and then longer or too short.
-fn work_length(random: &mut Random) -> usize {
+pub fn work_length(random: &mut Random) -> usize {
     match random.below(64) {
         0 => *random.pick(&[0, 1, 5, 64, 4_096, WORK_NUMBERS - 1]),
         1 => random.below(WORK_NUMBERS),

@@ -3,6 +3,7 @@
 //! memory with guards around it. The swift judge judges these inputs as well.
 
 pub mod answers;
+pub mod calls;
 pub mod coverage;
 pub mod files;
 pub mod follow;

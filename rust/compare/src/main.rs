@@ -2,8 +2,11 @@
 //! place and part, and closes with 'N passed, 0 failed': one for each kind of run, and
 //! one if each of these was met. It fails at the first difference.
 
-use compare::answers::answers_in_numbers;
-use compare::coverage::{wanted_of_files, wanted_of_judging, wanted_of_the_program, Coverage};
+use compare::answers::{answers_in_numbers, coverage_in_numbers};
+use compare::calls::ask_both;
+use compare::coverage::{
+    wanted_of_calls, wanted_of_files, wanted_of_judging, wanted_of_the_program, Coverage,
+};
 use compare::files::perform_both;
 use compare::follow::Followed;
 use compare::judging::{files_of, judge_all, Judging};
@@ -11,6 +14,7 @@ use compare::program::{run_both, Feeding};
 use compare::proved::{Proved, Side};
 use compare::swiftly::Swift;
 use compare::Compared;
+use generate::calls::Calls;
 use generate::inputs::{Inputs, Kind};
 use generate::random::Random;
 use generate::writing::Tasks;
@@ -19,10 +23,12 @@ use second::Verdict;
 use std::path::{Path, PathBuf};
 use std::process::ExitCode;
 
-const HELP: &str = "compare [--seed N] [--inputs N] [--tasks N] [--program JUDGE [--runs N]]
+const HELP: &str =
+    "compare [--seed N] [--inputs N] [--tasks N] [--calls N] [--program JUDGE [--runs N]]
     --seed      where the generator begins (1)
     --inputs    books with certificates to be judged (20000)
     --tasks     files to be read and lists to be written (8000)
+    --calls     calls that are asked for (8000)
     --program   the program `judge`, to be run as well
     --runs      inputs for the program (1500)";
 
@@ -33,12 +39,14 @@ struct Options {
     seed: u64,
     inputs: usize,
     tasks: usize,
+    calls: usize,
     program: Option<PathBuf>,
     runs: usize,
 }
 
 fn options() -> Option<Options> {
-    let mut options = Options { seed: 1, inputs: 20_000, tasks: 8_000, program: None, runs: 1_500 };
+    let mut options =
+        Options { seed: 1, inputs: 20_000, tasks: 8_000, calls: 8_000, program: None, runs: 1_500 };
     let mut words = std::env::args().skip(1);
     while let Some(word) = words.next() {
         let value = words.next()?;
@@ -46,6 +54,7 @@ fn options() -> Option<Options> {
             "--seed" => options.seed = value.parse().ok()?,
             "--inputs" => options.inputs = value.parse().ok()?,
             "--tasks" => options.tasks = value.parse().ok()?,
+            "--calls" => options.calls = value.parse().ok()?,
             "--program" => options.program = Some(PathBuf::from(value)),
             "--runs" => options.runs = value.parse().ok()?,
             _ => return None,
@@ -74,10 +83,11 @@ fn main() -> ExitCode {
 /// How many kinds of runs passed, and the test of what they met.
 fn compared(options: &Options) -> Compared<usize> {
     let mut coverage = Coverage::default();
-    let mut wanted = [wanted_of_judging(), wanted_of_files()].concat();
-    let mut passed = 2;
+    let mut wanted = [wanted_of_judging(), wanted_of_files(), wanted_of_calls()].concat();
+    let mut passed = 3;
     let followed = judgings(options, &mut coverage)?;
     readings_and_writings(options, &mut coverage)?;
+    calls(options, &mut coverage)?;
     if let Some(program) = &options.program {
         runs(program, options, &mut coverage)?;
         runs_in_pieces(program, options, &mut coverage)?;
@@ -132,6 +142,24 @@ fn readings_and_writings(options: &Options, coverage: &mut Coverage) -> Compared
         let answer = perform_both(&Proved, &task, &mut random)
             .map_err(|fault| numbered("task", number, options.seed, &fault))?;
         coverage.performed(&task, &answer);
+    }
+    Ok(())
+}
+
+/// Calls that are, nearly are or are not in an accepted family.
+fn calls(options: &Options, coverage: &mut Coverage) -> Compared<()> {
+    let mut calls = Calls::new(options.seed);
+    let mut random = Random::new(!options.seed);
+    for number in 0..options.calls {
+        let asking = calls.next_call();
+        let one = ask_both(&Proved, &asking, &mut random).and_then(|answer| {
+            coverage.asked(&asking, &answer);
+            match number % 100 {
+                0 => coverage_in_numbers(&asking, &mut random),
+                _ => Ok(()),
+            }
+        });
+        one.map_err(|fault| numbered("call", number, options.seed, &fault))?;
     }
     Ok(())
 }

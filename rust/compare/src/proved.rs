@@ -1,11 +1,14 @@
 //! The side that is compared with the second implementation, in its words.
 
-use gearcinder::{Acceptance, Refusal as ProvedRefusal, Verdict as ProvedVerdict};
-use second::{Answer, Refusal, Verdict};
+use gearcinder::{
+    Acceptance, Coverage as ProvedCoverage, Refusal as ProvedRefusal, Verdict as ProvedVerdict,
+};
+use second::{Answer, Coverage, Refusal, Verdict};
 
-/// The five operations.
+/// The six operations.
 pub trait Side {
     fn judge(&self, book: &[u8], certificate: &[u8], work: &mut [u64]) -> Verdict;
+    fn covers(&self, book: &[u8], certificate: &[u8], call: &[u8], work: &mut [u64]) -> Coverage;
     fn read_book(&self, book: &[u8], out: &mut [u16]) -> Answer;
     fn read_certificate(&self, book: &[u8], certificate: &[u8], out: &mut [u16]) -> Answer;
     fn write_book(&self, fields: &[u16], out: &mut [u8]) -> Answer;
@@ -22,6 +25,13 @@ impl Side for Proved {
                 Verdict::Accepted { line, k, alpha }
             }
             ProvedVerdict::Refused(refusal) => Verdict::Refused(refused(refusal)),
+        }
+    }
+
+    fn covers(&self, book: &[u8], certificate: &[u8], call: &[u8], work: &mut [u64]) -> Coverage {
+        match gearcinder::covers(book, certificate, call, work) {
+            ProvedCoverage::Covered { index } => Coverage::Covered { index },
+            ProvedCoverage::Refused(refusal) => Coverage::Refused(refused(refusal)),
         }
     }
 

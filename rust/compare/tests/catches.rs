@@ -1,13 +1,15 @@
 //! The comparison notices wrong sides and wrong programs.
 
+use compare::calls::ask_both;
 use compare::files::perform_both;
 use compare::judging::{judge_all, judge_both, Judging};
 use compare::program::{run_both, Feeding};
 use compare::proved::{Proved, Side};
 use compare::swiftly::Swift;
+use generate::calls::{Asking, Made};
 use generate::random::Random;
 use generate::writing::Task;
-use second::{Answer, Verdict};
+use second::{Answer, Coverage, Verdict};
 
 const BOOK: [u8; 6] = [0x01, 0x00, 0x11, 0x40, 0x10, 0x00];
 const CERTIFICATE: [u8; 12] = [0x01, 0x20, 0x14, 0, 0, 0x40, 0, 0, 0, 0, 0, 0];
@@ -15,6 +17,7 @@ const CERTIFICATE: [u8; 12] = [0x01, 0x20, 0x14, 0, 0, 0x40, 0, 0, 0, 0, 0, 0];
 /// The proved side with one thing wrong.
 enum Wrong {
     Alpha,
+    Index,
     WorkLeft,
     WorkTouched,
     OutputTouched,
@@ -32,6 +35,19 @@ impl Side for Wrong {
             _ => (),
         }
         verdict
+    }
+
+    fn covers(&self, book: &[u8], certificate: &[u8], call: &[u8], work: &mut [u64]) -> Coverage {
+        let coverage = Proved.covers(book, certificate, call, work);
+        match (self, coverage, work.last_mut()) {
+            (Wrong::Index, Coverage::Covered { index }, _) => {
+                return Coverage::Covered { index: index + 1 }
+            }
+            (Wrong::WorkLeft, Coverage::Covered { .. }, Some(last)) => *last = 1,
+            (Wrong::WorkTouched, Coverage::Refused(_), Some(last)) => *last ^= 1,
+            _ => (),
+        }
+        coverage
     }
 
     fn read_book(&self, book: &[u8], out: &mut [u16]) -> Answer {
@@ -104,6 +120,26 @@ fn a_number_left_in_the_work_table_is_found() {
 #[test]
 fn a_short_work_table_that_was_touched_is_found() {
     let found = differences(&Wrong::WorkTouched);
+    assert!(found > 0 && found < 100, "{found}");
+}
+
+/// How many of some askings for this call show a difference.
+fn differences_of_calls(side: &impl Side, call: &[u8]) -> usize {
+    let (book, certificate, call) = (BOOK.to_vec(), CERTIFICATE.to_vec(), call.to_vec());
+    let asking = Asking { made: Made::Within, book, certificate, call };
+    let mut random = Random::new(1);
+    (0..500).filter(|_| ask_both(side, &asking, &mut random).is_err()).count()
+}
+
+#[test]
+fn wrong_answers_to_calls_are_found() {
+    let covered = [0x40, 0x00];
+    assert_eq!(differences_of_calls(&Proved, &covered), 0);
+    assert_eq!(differences_of_calls(&Proved, &[]), 0);
+    assert!(differences_of_calls(&Wrong::Index, &covered) > 400);
+    assert!(differences_of_calls(&Wrong::WorkLeft, &covered) > 400);
+    assert!(differences_of_calls(&Wrong::WorkTouched, &[]) > 400);
+    let found = differences_of_calls(&Wrong::WorkTouched, &covered);
     assert!(found > 0 && found < 100, "{found}");
 }
 

@@ -11,13 +11,14 @@ pub enum Place {
     Line = 2,
     Closing = 3,
     Neither = 4,
+    Call = 5,
 }
 
 /// Why an input was refused. Displayed, it is the program's line: `refuse`
 /// number W A B.
 #[derive(Clone, Copy, Debug, PartialEq, Eq, Hash)]
 pub struct Refusal {
-    /// The refusal's number, 1 to 16; see [`Refusal::reason`].
+    /// The refusal's number, 1 to 17; see [`Refusal::reason`].
     pub number: u8,
     pub place: Place,
     /// For 3 to 7 the bit offset at which the refused field begins, or, in the
@@ -48,6 +49,7 @@ impl Refusal {
             14 => "the closing names a line whose right is empty",
             15 => "the closing does not lead back to the left",
             16 => "a side has more than 1,024 nodes",
+            17 => "the call is not in the accepted family",
             _ => "unknown",
         }
     }
@@ -95,6 +97,32 @@ impl fmt::Display for Verdict {
     }
 }
 
+/// Whether a call is in the family of an accepted certificate. Displayed, it is `covered`
+/// index, or the refusal's line.
+#[derive(Clone, Copy, Debug, PartialEq, Eq, Hash)]
+pub enum Coverage {
+    /// The call is the named line's left at this index, filled; it is the smallest such
+    /// index from α on.
+    Covered { index: u64 },
+    /// 17 if the call is not in the family.
+    Refused(Refusal),
+}
+
+impl Coverage {
+    pub fn is_covered(&self) -> bool {
+        matches!(self, Coverage::Covered { .. })
+    }
+}
+
+impl fmt::Display for Coverage {
+    fn fmt(&self, f: &mut fmt::Formatter<'_>) -> fmt::Result {
+        match self {
+            Coverage::Covered { index } => write!(f, "covered {index}"),
+            Coverage::Refused(refusal) => refusal.fmt(f),
+        }
+    }
+}
+
 /// Takes the numbers apart: what was found, or the refusal.
 pub(crate) fn told([kind, one, two, three, four]: Numbers) -> Result<[u64; 3], Refusal> {
     match kind {
@@ -110,6 +138,7 @@ fn place_of(w: u64) -> Place {
         2 => Place::Line,
         3 => Place::Closing,
         4 => Place::Neither,
-        _ => unreachable!("W is proved to be 0 to 4"),
+        5 => Place::Call,
+        _ => unreachable!("W is proved to be 0 to 5"),
     }
 }

@@ -28,7 +28,20 @@
 //! assert_eq!(verdict.to_string(), "accept 0 0 0");
 //! ```
 //!
-//! Both files are packed. [`read_book`] and [`read_certificate`] turn bytes into
+//! [`covers`] tells whether a call is in the family of an accepted certificate, and at
+//! which index.
+//!
+//! ```
+//! # let book = [0x01, 0x00, 0x11, 0x40, 0x10, 0x00];
+//! # let certificate = [0x01, 0x20, 0x14, 0, 0, 0x40, 0, 0, 0, 0, 0, 0];
+//! # let mut work = vec![0; gearcinder::WORK_NUMBERS];
+//! // The call `a`.
+//! let call = [0x40, 0x00];
+//! let coverage = gearcinder::covers(&book, &certificate, &call, &mut work);
+//! assert_eq!(coverage, gearcinder::Coverage::Covered { index: 0 });
+//! ```
+//!
+//! Both files, and the call, are packed. [`read_book`] and [`read_certificate`] turn bytes into
 //! a list of fields, [`write_book`] and [`write_certificate`] turn such a list
 //! back into bytes. All memory is lent by the caller; nothing is allocated and
 //! nothing is kept between calls.
@@ -49,7 +62,7 @@ mod answers;
 pub mod raw;
 
 use answers::told;
-pub use answers::{Acceptance, Place, Refusal, Verdict};
+pub use answers::{Acceptance, Coverage, Place, Refusal, Verdict};
 use raw::Numbers;
 
 /// The judge refuses a work table that is shorter than this.
@@ -69,6 +82,20 @@ pub fn judge(book: &[u8], certificate: &[u8], work: &mut [u64]) -> Verdict {
     match told(numbers) {
         Ok([line, k, alpha]) => Verdict::Accepted(Acceptance { line, k, alpha }),
         Err(refusal) => Verdict::Refused(refusal),
+    }
+}
+
+/// Is this call in the family that the certificate names? The certificate is judged first;
+/// if it is refused, that is the answer, and the call is not looked at.
+///
+/// `call` is one term, packed as a file, with a = 0 in all its powers. `work` is as for
+/// [`judge`].
+pub fn covers(book: &[u8], certificate: &[u8], call: &[u8], work: &mut [u64]) -> Coverage {
+    let mut numbers = Numbers::default();
+    raw::covers(book, certificate, call, work, &mut numbers);
+    match told(numbers) {
+        Ok([index, _, _]) => Coverage::Covered { index },
+        Err(refusal) => Coverage::Refused(refusal),
     }
 }
 

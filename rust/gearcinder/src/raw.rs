@@ -1,8 +1,9 @@
-//! The library's own five functions, over slices of numbers.
+//! The library's own six functions, over slices of numbers.
 //!
 //! Each answers by [`Numbers`]: 0 and what was found, or 1 and the refusal's number,
-//! W, A and B. What was found is, for [`judge`], the line, k, α and 0; for the
-//! others, the number of places filled and three zeros. The functions of the crate's
+//! W, A and B. What was found is, for [`judge`], the line, k, α and 0; for [`covers`],
+//! the index and three zeros; for the others, the number of places filled and three
+//! zeros. The functions of the crate's
 //! root put this into types.
 
 /// An answer.
@@ -20,6 +21,29 @@ pub fn judge(book: &[u8], certificate: &[u8], work: &mut [u64], answer: &mut Num
             book.len(),
             certificate.as_ptr(),
             certificate.len(),
+            work.as_mut_ptr(),
+            work.len(),
+            answer,
+        )
+    }
+}
+
+/// Asks whether a call is in the family that an accepted certificate names.
+pub fn covers(
+    book: &[u8],
+    certificate: &[u8],
+    call: &[u8],
+    work: &mut [u64],
+    answer: &mut Numbers,
+) {
+    unsafe {
+        c::gearcinder_covers(
+            book.as_ptr(),
+            book.len(),
+            certificate.as_ptr(),
+            certificate.len(),
+            call.as_ptr(),
+            call.len(),
             work.as_mut_ptr(),
             work.len(),
             answer,
@@ -82,6 +106,18 @@ mod c {
             book_length: usize,
             certificate: *const u8,
             certificate_length: usize,
+            work: *mut u64,
+            work_length: usize,
+            answer: *mut Numbers,
+        );
+
+        pub fn gearcinder_covers(
+            book: *const u8,
+            book_length: usize,
+            certificate: *const u8,
+            certificate_length: usize,
+            call: *const u8,
+            call_length: usize,
             work: *mut u64,
             work_length: usize,
             answer: *mut Numbers,

@@ -53,6 +53,40 @@ fn a_short_work_table_is_kept() {
 }
 
 #[test]
+fn calls_of_the_family() {
+    let mut work = [7; WORK_NUMBERS];
+    let coverage = covers(&BOOK, &CERTIFICATE, &[0x40, 0x00], &mut work);
+    assert_eq!(coverage, Coverage::Covered { index: 0 });
+    assert!(coverage.is_covered());
+    assert_eq!(coverage.to_string(), "covered 0");
+    assert_eq!(work, [0; WORK_NUMBERS]);
+}
+
+#[test]
+fn calls_that_are_refused() {
+    let asked = |call: &[u8]| {
+        let mut work = [7; WORK_NUMBERS + 1];
+        let coverage = covers(&BOOK, &CERTIFICATE, call, &mut work);
+        assert_eq!(work, [0; WORK_NUMBERS + 1]);
+        assert!(!coverage.is_covered());
+        coverage
+    };
+    // A variable alone; nothing; tag 3; a byte left over.
+    assert_eq!(asked(&[0x00]), Coverage::Refused(refusal(17, Place::Neither, 0, 0)));
+    assert_eq!(asked(&[]), Coverage::Refused(refusal(3, Place::Call, 0, 0)));
+    assert_eq!(asked(&[0xC0, 0x00]), Coverage::Refused(refusal(4, Place::Call, 0, 0)));
+    assert_eq!(asked(&[0x40, 0x00, 0x00]).to_string(), "refuse 7 5 10 0");
+    // The judge's own refusals come first.
+    let mut work = [7; WORK_NUMBERS];
+    assert_eq!(covers(&[0, 0], &[0, 0], &[], &mut work).to_string(), "refuse 4 1 8 0");
+    assert_eq!(work, [0; WORK_NUMBERS]);
+    let mut work = [7; WORK_NUMBERS - 1];
+    let coverage = covers(&BOOK, &CERTIFICATE, &[0x40, 0x00], &mut work);
+    assert_eq!(coverage, Coverage::Refused(refusal(1, Place::Neither, 0, 0)));
+    assert_eq!(work, [7; WORK_NUMBERS - 1]);
+}
+
+#[test]
 fn files_there_and_back() {
     let (mut list, mut bytes) = ([0xABCD; 40], [0xAB; 20]);
     assert_eq!(read_book(&BOOK, &mut list), Ok(8));
@@ -84,7 +118,7 @@ fn outputs_without_room_are_kept() {
 
 #[test]
 fn every_number_has_a_reason() {
-    for number in 1..=16 {
+    for number in 1..=17 {
         assert_ne!(refusal(number, Place::Line, 0, 0).reason(), "unknown");
     }
 }

@@ -1,6 +1,9 @@
 //! A seeded generator of (book, certificate) pairs: accepted ones of many
-//! shapes, well-formed ones that fail at a chosen part, and damaged ones.
+//! shapes, well-formed ones that fail at a chosen part, and damaged ones; and of
+//! calls that are or are not in an accepted family.
 
+pub mod asked;
+pub mod calls;
 pub mod damage;
 pub mod faults;
 pub mod hex;

@@ -1,5 +1,6 @@
 //! Prints counts or the inputs themselves with the second judge's answers.
 
+use generate::asked::tally_of_calls;
 use generate::hex::{hex, wide};
 use generate::inputs::Inputs;
 use generate::tally::tally;
@@ -11,7 +12,8 @@ use std::path::Path;
 const HELP: &str = "generate count SEED COUNT       counts by refusal number and part
 generate lines SEED COUNT       one input per line: hex, a tab, the expected line
 generate files SEED COUNT DIR   DIR/NUMBER.in and DIR/NUMBER.expected
-generate tasks SEED COUNT       reader and writer tasks, one per line";
+generate tasks SEED COUNT       reader and writer tasks, one per line
+generate calls SEED COUNT       counts of calls by answer and by how they were made";
 
 fn main() -> std::io::Result<()> {
     let arguments: Vec<String> = std::env::args().skip(1).collect();
@@ -35,6 +37,12 @@ fn run(command: &str, seed: u64, count: usize, rest: &[&str]) -> std::io::Result
     match (command, rest) {
         ("count", []) => {
             tally(seed, count).print();
+            Ok(())
+        }
+        ("calls", []) => {
+            for (label, count) in tally_of_calls(seed, count) {
+                println!("{count:8}  {label}");
+            }
             Ok(())
         }
         ("lines", []) => lines(seed, count),

@@ -1,10 +1,11 @@
 //! Reading turns bytes into a field list, writing turns a list into bytes.
 
 use crate::answer::{Answer, Refusal, BOOK, CERTIFICATE};
-use crate::grammar::{whole_book, whole_certificate};
+use crate::grammar::{whole_book, whole_call, whole_certificate};
 use crate::model::{Book, Certificate};
 use crate::source::{Bits, List};
 use crate::spell::{pack, values, Field};
+use crate::term::Term;
 
 /// "rule book over 16,384 bytes or certificate over 32,768, read or written"
 pub const BOOK_BYTES: usize = 16_384;
@@ -22,6 +23,16 @@ pub fn parse_book(book: &[u8]) -> Result<Book, Refusal> {
 
 pub fn parse_certificate(book: &[u8], certificate: &[u8]) -> Result<Certificate, Refusal> {
     Ok(parse_both(book, certificate)?.1)
+}
+
+/// A packed call of a book. It has no length of its own that is too much.
+pub fn parse_call(book: &Book, call: &[u8]) -> Result<Term, Refusal> {
+    Ok(whole_call(Bits::new(call), &book.arities)?.0)
+}
+
+/// Packs the fields of a call; a refusal names the field.
+pub fn packed_call(book: &Book, fields: &[u16]) -> Result<Vec<u8>, Refusal> {
+    Ok(pack(&whole_call(List::new(fields), &book.arities)?.1))
 }
 
 pub fn read_book(book: &[u8], out: &mut [u16]) -> Answer {

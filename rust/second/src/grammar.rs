@@ -1,7 +1,7 @@
 //! The packed layout, field by field. One grammar serves reading (fields come
 //! from bits) and writing (fields come from a list).
 
-use crate::answer::{Refusal, BOOK, CERTIFICATE};
+use crate::answer::{Refusal, BOOK, CALL, CERTIFICATE};
 use crate::model::{Book, Certificate, Closing, Filling, Line, Proof, Rule, Use};
 use crate::source::Source;
 use crate::spell::Field;
@@ -50,6 +50,15 @@ pub fn whole_certificate<S: Source>(source: S, book: &Book) -> Parsed<(Certifica
     let certificate = parser.certificate(book)?;
     parser.end()?;
     Ok((certificate, parser.fields))
+}
+
+/// Parses a whole call over the symbols of a book: one term without index,
+/// "padded as a file". Its root may be a variable.
+pub fn whole_call<S: Source>(source: S, arities: &[u8]) -> Parsed<(Term, Vec<Field>)> {
+    let mut parser = Parser::new(source, CALL);
+    let call = parser.term(arities)?;
+    parser.end()?;
+    Ok((call, parser.fields))
 }
 
 impl<S: Source> Parser<S> {
@@ -158,9 +167,9 @@ impl<S: Source> Parser<S> {
         if above.power == Some(symbol) {
             return Err(self.refusal(5, place));
         }
-        // In a rule book "powers have a = 0".
-        let in_book = self.w == BOOK;
-        let a = self.field(12, |a| !in_book || a == 0)?;
+        // In a rule book "powers have a = 0"; in a call "a above 0 is 4".
+        let without_index = self.w == BOOK || self.w == CALL;
+        let a = self.field(12, |a| !without_index || a == 0)?;
         let place = self.source.place();
         let b = self.any_field(12)?;
         // 5 "at b if a = b = 0"

@@ -22,28 +22,35 @@ type Side = Option<Term>;
 
 /// Judges a certificate over its book.
 pub fn judge(book: &[u8], certificate: &[u8], work: &mut [u64]) -> Verdict {
-    over_table(work, || judged(book, certificate))
+    verdict(over_table(work, || judged(book, certificate)))
 }
 
 /// The program's framing: "two bytes, the book's length, high byte first, then
 /// the book; the certificate begins at the next byte after the book and takes
 /// the rest".
 pub fn judge_input(input: &[u8], work: &mut [u64]) -> Verdict {
-    over_table(work, || {
+    verdict(over_table(work, || {
         let (book, certificate) = framed(input)?;
         judged(book, certificate)
-    })
+    }))
 }
 
 /// "Order: 1; ..", before the framing too. This judge needs no work table, but
 /// keeps the promise about it: "The work table is all zeros after every call but
 /// refusal 1, which doesn't touch it."
-fn over_table(work: &mut [u64], judged: impl FnOnce() -> Result<Closing, Refusal>) -> Verdict {
+pub fn over_table<T>(
+    work: &mut [u64],
+    answered: impl FnOnce() -> Result<T, Refusal>,
+) -> Result<T, Refusal> {
     if work.len() < WORK_NUMBERS {
-        return Verdict::Refused(Refusal::placeless(1, NEITHER));
+        return Err(Refusal::placeless(1, NEITHER));
     }
     work.fill(0);
-    match judged() {
+    answered()
+}
+
+fn verdict(judged: Result<Closing, Refusal>) -> Verdict {
+    match judged {
         Ok(closing) => {
             Verdict::Accepted { line: u64::from(closing.line), k: closing.k, alpha: closing.alpha }
         }

@@ -1,9 +1,11 @@
 //! A second implementation of the certificate judge, its reader and its
-//! writer, made from the document "Build scope and exact rules" (01) alone.
+//! writer, made from the document "Build scope and exact rules" (01) alone, and
+//! of what was asked for later, from the document of requests (02).
 //!
-//! Words in quotation marks in the comments are the document's own.
+//! Words in quotation marks in the comments are the documents' own.
 
 pub mod answer;
+pub mod covering;
 pub mod derive;
 pub mod files;
 pub mod grammar;
@@ -15,7 +17,8 @@ pub mod source;
 pub mod spell;
 pub mod term;
 
-pub use answer::{verdict_line, Answer, Refusal, Verdict};
+pub use answer::{coverage_line, verdict_line, Answer, Coverage, Refusal, Verdict};
+pub use covering::covers;
 pub use files::{
     parse_book, parse_certificate, read_book, read_certificate, write_book, write_certificate,
 };

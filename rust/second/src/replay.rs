@@ -75,6 +75,38 @@ pub fn is_term(plain: &[Token], arities: &[u8]) -> bool {
     missing == 0
 }
 
+/// How many tokens the first term of a spelling has, if it is whole.
+fn first_term(tokens: &[Token], arities: &[u8]) -> Option<usize> {
+    let mut missing = 1usize;
+    for (place, token) in tokens.iter().enumerate() {
+        missing -= 1;
+        if let Token::Sym(symbol) = token {
+            missing += usize::from(*arities.get(usize::from(*symbol))?);
+        }
+        if missing == 0 {
+            return Some(place + 1);
+        }
+    }
+    None
+}
+
+/// Does some filling turn the pattern into exactly this call? A variable takes the whole
+/// term that begins where it stands, and must find the same again.
+pub fn has_filling(pattern: &[Token], call: &[Token], arities: &[u8]) -> bool {
+    let mut filling = PlainFilling::new();
+    let mut rest = call;
+    for token in pattern {
+        if let (Token::Var(name), Some(length)) = (token, first_term(rest, arities)) {
+            filling.entry(*name).or_insert_with(|| rest[..length].to_vec());
+        }
+        match rest.strip_prefix(filled_token(token, &filling)) {
+            Some(after) => rest = after,
+            None => return false,
+        }
+    }
+    rest.is_empty()
+}
+
 pub fn is_ground(plain: &[Token]) -> bool {
     plain.iter().all(|token| matches!(token, Token::Sym(_)))
 }

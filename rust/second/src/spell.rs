@@ -142,6 +142,16 @@ pub fn pack(fields: &[Field]) -> Vec<u8> {
     bytes
 }
 
+pub fn call_fields(call: &Term) -> Vec<Field> {
+    let mut speller = Speller::default();
+    speller.term(call);
+    speller.fields
+}
+
+pub fn pack_call(call: &Term) -> Vec<u8> {
+    pack(&call_fields(call))
+}
+
 pub fn pack_book(book: &Book) -> Vec<u8> {
     pack(&book_fields(book))
 }

@@ -9,12 +9,17 @@ struct Command {
     does: &'static str,
 }
 
-const COMMANDS: [Command; 9] = [
+const COMMANDS: [Command; 12] = [
     Command { name: "pack-book", arguments: "[TEXT]", does: "packs the text of a book" },
     Command {
         name: "pack-certificate",
         arguments: "BOOK [TEXT]",
         does: "packs the text of a certificate of that book",
+    },
+    Command {
+        name: "pack-call",
+        arguments: "BOOK [TEXT]",
+        does: "packs the text of a call of that book",
     },
     Command {
         name: "print-book",
@@ -27,6 +32,11 @@ const COMMANDS: [Command; 9] = [
         does: "prints a certificate as text",
     },
     Command {
+        name: "print-call",
+        arguments: "[--names TEXT] BOOK [CALL]",
+        does: "prints a call as text",
+    },
+    Command {
         name: "frame",
         arguments: "BOOK [CERTIFICATE]",
         does: "makes the input of the program `judge`",
@@ -35,6 +45,11 @@ const COMMANDS: [Command; 9] = [
         name: "judge",
         arguments: "BOOK CERTIFICATE",
         does: "asks the proved judge: status 0 accepted, 1 refused, 2 not asked",
+    },
+    Command {
+        name: "covers",
+        arguments: "BOOK CERTIFICATE (CALL | --term TERM)",
+        does: "asks whether the call is in the accepted family: status 0 yes, 1 no, 2 not asked",
     },
     Command {
         name: "pack-vectors",
@@ -50,13 +65,13 @@ const COMMANDS: [Command; 9] = [
 ];
 
 const NOTES: &str = "
-BOOK and CERTIFICATE are packed files, or text if the name ends in `.txt`.
+BOOK, CERTIFICATE and CALL are packed files, or text if the name ends in `.txt`.
 A hyphen is standard input, and so is a last file that is left out.
 The result goes to standard output. `--names` takes the symbols' names from a text.
 The status is 0 if all is well, 1 if a text or a file is refused, 2 if the command
 is not understood, a file can't be read, or a write fails.
-`judge` runs the program gearcinder-judge, which is built beside this one; docs/TEXT.md
-has it all.
+`judge` and `covers` run the program gearcinder-judge, which is built beside this one;
+docs/TEXT.md has it all.
 ";
 
 impl Command {

@@ -1,7 +1,7 @@
-//! Books and certificates from files, packed or, if the name ends in `.txt`, as text.
+//! Books, certificates and calls from files, packed or, if the name ends in `.txt`, as text.
 
 use crate::shell::{bytes_of, called, text_of, Failure};
-use crate::{names_in, pack_book_text, pack_certificate_named, Symbols};
+use crate::{names_in, pack_book_text, pack_call_named, pack_certificate_named, Symbols};
 
 /// A packed book; the names of its symbols are known if it was text.
 pub struct Book {
@@ -31,6 +31,37 @@ pub fn certificate_of(book: &Book, file: &str) -> Result<Vec<u8>, Failure> {
         false => bytes_of(file),
         true => packed_certificate(book, file, &text_of(file)?),
     }
+}
+
+/// A call, from a file or as a term in the arguments.
+#[derive(Clone, Copy)]
+pub enum CallFrom<'a> {
+    File(&'a str),
+    Term(&'a str),
+}
+
+impl<'a> CallFrom<'a> {
+    /// The last arguments of a command: `CALL` or `--term TERM`.
+    pub fn words(words: &[&'a str]) -> Option<CallFrom<'a>> {
+        match words {
+            ["--term", term] => Some(CallFrom::Term(term)),
+            [file] if *file == "-" || !file.starts_with('-') => Some(CallFrom::File(file)),
+            _ => None,
+        }
+    }
+
+    pub fn packed(self, book: &Book) -> Result<Vec<u8>, Failure> {
+        match self {
+            CallFrom::File(file) if is_text(file) => packed_call(book, file, &text_of(file)?),
+            CallFrom::File(file) => bytes_of(file),
+            CallFrom::Term(term) => packed_call(book, "the term", term),
+        }
+    }
+}
+
+pub fn packed_call(book: &Book, file: &str, text: &str) -> Result<Vec<u8>, Failure> {
+    let packed = pack_call_named(&book.bytes, book.names.as_ref(), text);
+    packed.map_err(|error| Failure::refused(error.in_files(&book.file, called(file))))
 }
 
 pub fn packed_book(file: &str, text: &str) -> Result<Vec<u8>, Failure> {

@@ -13,6 +13,8 @@ pub enum Kind {
     PowerSymbol,
     /// The a of a power in a book.
     BookA,
+    /// The a of a power in a call.
+    CallA,
     A,
     B,
     LineCount,
@@ -45,7 +47,7 @@ impl Kind {
             Kind::SymbolCount | Kind::RuleCount | Kind::LineCount => 8,
             Kind::Symbol | Kind::PowerSymbol => 8,
             Kind::Rule | Kind::DescentRule | Kind::UsedLine | Kind::NamedLine => 8,
-            Kind::BookA | Kind::A | Kind::B => 12,
+            Kind::BookA | Kind::CallA | Kind::A | Kind::B => 12,
             Kind::I | Kind::J | Kind::K | Kind::Alpha => 12,
         }
     }
@@ -74,6 +76,7 @@ impl Kind {
             Kind::Symbol => "a symbol of the book of an arity other than 1",
             Kind::PowerSymbol => "a symbol of the book of arity 1",
             Kind::BookA => "a = 0 in a book",
+            Kind::CallA => "a = 0 in a call",
             Kind::A | Kind::B | Kind::I | Kind::J | Kind::K => "a number from 0 to 4095",
             Kind::LineCount => "at most 255 lines",
             Kind::LineKind => "an unfold or a descent",

@@ -5,17 +5,24 @@ mod help;
 use help::{help, misused};
 use std::collections::BTreeSet;
 use std::process::{Command, ExitCode};
-use text::inputs::{book_of, certificate_of, framed, packed_book, packed_certificate, Book};
+use text::inputs::{
+    book_of, certificate_of, framed, packed_book, packed_call, packed_certificate, Book, CallFrom,
+};
 use text::shell::{called, run_with, text_of, write_file, Failure, Outcome, DONE, UNDONE};
 use text::vectors::{expected_output, pack_vectors, parse_vectors, Vector};
-use text::{names_in, print_book, print_certificate, Symbols, TextError};
+use text::{names_in, print_book, print_call, print_certificate, Symbols, TextError};
 
 type Done = Result<Vec<u8>, Failure>;
 
 fn main() -> ExitCode {
     run_with(|words| match words {
-        ["judge", book, certificate] if !is_help(book) && !is_help(certificate) => {
-            judged(book, certificate)
+        ["judge", files @ ..] if files.len() == 2 && !files.iter().any(|word| is_help(word)) => {
+            asked(files)
+        }
+        ["covers", book, certificate, call @ ..]
+            if CallFrom::words(call).is_some() && !is_help(book) && !is_help(certificate) =>
+        {
+            asked(words)
         }
         _ => Ok((told(words)?, DONE)),
     })
@@ -23,9 +30,9 @@ fn main() -> ExitCode {
 
 /// Lets the program `gearcinder-judge`, which is built beside this one, answer; so only whoever
 /// asks the judge needs the proved library.
-fn judged(book: &str, certificate: &str) -> Outcome {
+fn asked(words: &[&str]) -> Outcome {
     let program = std::env::current_exe().map(|own| own.with_file_name("gearcinder-judge"));
-    let asked = program.and_then(|judge| Command::new(judge).args([book, certificate]).status());
+    let asked = program.and_then(|judge| Command::new(judge).args(words).status());
     match asked {
         Ok(status) => Ok((Vec::new(), status.code().map_or(UNDONE, |code| code as u8))),
         Err(error) => {
@@ -59,10 +66,14 @@ fn run(words: &[&str]) -> Done {
         ["pack-book", file] => packed_book(file, &text_of(file)?),
         ["pack-certificate", book] => certificate_packed(book, "-"),
         ["pack-certificate", book, file] => certificate_packed(book, file),
+        ["pack-call", book] => call_packed(book, "-"),
+        ["pack-call", book, file] => call_packed(book, file),
         ["print-book"] => book_printed(names, "-"),
         ["print-book", book] => book_printed(names, book),
         ["print-certificate", book] => certificate_printed(names, book, "-"),
         ["print-certificate", book, file] => certificate_printed(names, book, file),
+        ["print-call", book] => call_printed(names, book, "-"),
+        ["print-call", book, file] => call_printed(names, book, file),
         ["frame", book] => frame(book, "-"),
         ["frame", book, certificate] => frame(book, certificate),
         ["pack-vectors", packed, output, ref files @ ..] if !files.is_empty() => {
@@ -81,10 +92,10 @@ fn run(words: &[&str]) -> Done {
     }
 }
 
-/// Takes `--names TEXT`, which only the two printing commands have, out of the words.
+/// Takes `--names TEXT`, which only the printing commands have, out of the words.
 fn without_names<'a>(words: &[&'a str]) -> Result<(Vec<&'a str>, Option<&'a str>), Failure> {
     match words {
-        [command @ ("print-book" | "print-certificate"), "--names", names, rest @ ..] => {
+        [command, "--names", names, rest @ ..] if command.starts_with("print-") => {
             Ok(([&[*command], rest].concat(), Some(names)))
         }
         _ => match words.iter().find(|word| word.starts_with('-') && **word != "-") {
@@ -98,6 +109,10 @@ fn certificate_packed(book: &str, file: &str) -> Done {
     packed_certificate(&book_of(book)?, file, &text_of(file)?)
 }
 
+fn call_packed(book: &str, file: &str) -> Done {
+    packed_call(&book_of(book)?, file, &text_of(file)?)
+}
+
 fn book_printed(names: Option<&str>, book: &str) -> Done {
     let book = book_of(book)?;
     let printed = print_book(&book.bytes, names_of(names, &book)?.as_ref());
@@ -108,6 +123,13 @@ fn certificate_printed(names: Option<&str>, book: &str, file: &str) -> Done {
     let book = book_of(book)?;
     let certificate = certificate_of(&book, file)?;
     let printed = print_certificate(&book.bytes, &certificate, names_of(names, &book)?.as_ref());
+    Ok(printed.map_err(|error| refused(&error, names, &book, called(file)))?.into_bytes())
+}
+
+fn call_printed(names: Option<&str>, book: &str, file: &str) -> Done {
+    let book = book_of(book)?;
+    let call = CallFrom::File(file).packed(&book)?;
+    let printed = print_call(&book.bytes, &call, names_of(names, &book)?.as_ref());
     Ok(printed.map_err(|error| refused(&error, names, &book, called(file)))?.into_bytes())
 }
 

@@ -1,14 +1,14 @@
 //! From text to packed bytes.
 
 use crate::reader::{Read, Reader};
-use crate::statements::{book_fields, lines_and_closing};
+use crate::statements::{book_fields, lines_and_closing, one_call};
 use crate::symbols::Symbols;
 use crate::terms::Table;
 use crate::TextError;
-use second::answer::{BOOK, CERTIFICATE};
-use second::files::{parse_book, BOOK_BYTES, CERTIFICATE_BYTES};
+use second::answer::{BOOK, CALL, CERTIFICATE};
+use second::files::{packed_call, parse_book, BOOK_BYTES, CERTIFICATE_BYTES};
 use second::spell::values;
-use second::{write_book, write_certificate, Answer};
+use second::{write_book, write_certificate, Answer, Book, Refusal};
 
 /// Packs the text of a rule book.
 pub fn pack_book_text(text: &str) -> Read<Vec<u8>> {
@@ -26,11 +26,7 @@ pub fn pack_certificate_text(book: &[u8], text: &str) -> Read<Vec<u8>> {
 
 /// The same; where the names of the book are known, the table must have these too.
 pub fn pack_certificate_named(book: &[u8], names: Option<&Symbols>, text: &str) -> Read<Vec<u8>> {
-    let parsed = parse_book(book);
-    let parsed = parsed.map_err(|refusal| TextError::Refused { refusal, place: None })?;
-    if let Some(names) = names.filter(|names| !names.fit(&parsed.arities)) {
-        return Err(TextError::unfit_names(names, &parsed.arities));
-    }
+    let parsed = book_with(book, names)?;
     let mut reader = Reader::new(text)?;
     let table = reader.symbol_table()?;
     same_symbols(&reader, &table, &OfBook { arities: &parsed.arities, names })?;
@@ -39,6 +35,34 @@ pub fn pack_certificate_named(book: &[u8], names: Option<&Symbols>, text: &str) 
     let mut out = vec![0; CERTIFICATE_BYTES];
     let answer = write_certificate(book, &values(&reader.fields), &mut out);
     packed(answer, out, CERTIFICATE, &reader)
+}
+
+/// Packs the text of a call over a packed rule book. It may have a symbol list, which must
+/// be the book's; without one the names are these, or names by number.
+pub fn pack_call_named(book: &[u8], names: Option<&Symbols>, text: &str) -> Read<Vec<u8>> {
+    let parsed = book_with(book, names)?;
+    let mut reader = Reader::new(text)?;
+    reader.symbols = match reader.table_follows() {
+        true => {
+            let table = reader.symbol_table()?;
+            same_symbols(&reader, &table, &OfBook { arities: &parsed.arities, names })?;
+            table.symbols
+        }
+        false => names.cloned().unwrap_or_else(|| Symbols::by_number(&parsed.arities)),
+    };
+    let reader = one_call(reader)?;
+    let packed = packed_call(&parsed, &values(&reader.fields));
+    packed.map_err(|refusal| refused(refusal, CALL, &reader))
+}
+
+/// The book, which has these names if they are known.
+fn book_with(book: &[u8], names: Option<&Symbols>) -> Read<Book> {
+    let parsed = parse_book(book);
+    let parsed = parsed.map_err(|refusal| TextError::Refused { refusal, place: None })?;
+    match names.filter(|names| !names.fit(&parsed.arities)) {
+        None => Ok(parsed),
+        Some(names) => Err(TextError::unfit_names(names, &parsed.arities)),
+    }
 }
 
 /// What is known of the symbols of a book: the arities, and perhaps the names.
@@ -82,17 +106,20 @@ fn same_symbols(reader: &Reader, table: &Table, book: &OfBook) -> Read<()> {
     }
 }
 
-/// Cuts the output, or finds the place in the text that the refusal means.
+/// Cuts the output to what was written.
 fn packed(answer: Answer, mut out: Vec<u8>, w: u8, reader: &Reader) -> Read<Vec<u8>> {
     match answer {
         Answer::Filled(count) => {
             out.truncate(count);
             Ok(out)
         }
-        Answer::Refused(refusal) => {
-            let of_a_field = refusal.w == w && (3..=7).contains(&refusal.number);
-            let place = if of_a_field { reader.place_of(&refusal) } else { None };
-            Err(TextError::Refused { refusal, place })
-        }
+        Answer::Refused(refusal) => Err(refused(refusal, w, reader)),
     }
+}
+
+/// Finds the place in the text that the refusal means.
+fn refused(refusal: Refusal, w: u8, reader: &Reader) -> TextError {
+    let of_a_field = refusal.w == w && (3..=7).contains(&refusal.number);
+    let place = if of_a_field { reader.place_of(&refusal) } else { None };
+    TextError::Refused { refusal, place }
 }

@@ -3,7 +3,7 @@
 use crate::symbols::Symbols;
 use crate::terms::variable_name;
 use crate::TextError;
-use second::files::{parse_book, parse_both};
+use second::files::{parse_book, parse_both, parse_call};
 use second::{Book, Certificate, Filling, Line, Proof, Refusal, Rule, Term, Use};
 
 type Printed = Result<String, TextError>;
@@ -18,6 +18,13 @@ pub fn print_book(book: &[u8], names: Option<&Symbols>) -> Printed {
 pub fn print_certificate(book: &[u8], certificate: &[u8], names: Option<&Symbols>) -> Printed {
     let (book, certificate) = parse_both(book, certificate).map_err(refused)?;
     Ok(certificate_text(&certificate, &chosen(&book, names)?))
+}
+
+/// Prints a packed call of a packed rule book.
+pub fn print_call(book: &[u8], call: &[u8], names: Option<&Symbols>) -> Printed {
+    let book = parse_book(book).map_err(refused)?;
+    let call = parse_call(&book, call).map_err(refused)?;
+    Ok(term_text(&call, &chosen(&book, names)?) + "\n")
 }
 
 fn refused(refusal: Refusal) -> TextError {

@@ -12,8 +12,8 @@ pub struct Reader {
     tokens: Vec<(Token, Position)>,
     at: usize,
     pub symbols: Symbols,
-    /// Is it a book, and not a certificate?
-    pub in_book: bool,
+    /// What the a of a power is in this text: in a book and in a call it has to be 0.
+    pub kind_of_a: Kind,
     pub fields: Vec<Field>,
     /// What each field is, and the number of the token that it stems from.
     origins: Vec<(Kind, usize)>,
@@ -27,7 +27,7 @@ impl Reader {
             tokens: tokens(text)?,
             at: 0,
             symbols: Symbols::default(),
-            in_book: false,
+            kind_of_a: Kind::A,
             fields: Vec::new(),
             origins: Vec::new(),
         })
@@ -70,6 +70,12 @@ impl Reader {
 
     pub fn is_word(&self, word: &str) -> bool {
         matches!(self.token(), Token::Word(found) if found == word)
+    }
+
+    /// Does a symbol list follow, and not a term whose symbol is called `symbols`?
+    pub fn table_follows(&self) -> bool {
+        let after = self.tokens.get(self.at + 1).map(|(token, _)| token);
+        self.is_word("symbols") && matches!(after, Some(Token::Word(_) | Token::Sign(".")))
     }
 
     /// Takes the sign if it stands here.

@@ -1,4 +1,4 @@
-//! The statements of books and certificates: rules, lines and the closing.
+//! The statements of books and certificates: rules, lines and the closing; and calls.
 
 use crate::kinds::Kind;
 use crate::reader::{Read, Reader};
@@ -7,7 +7,7 @@ use crate::symbols::Symbols;
 /// The field list of a book's text.
 pub fn book_fields(text: &str) -> Read<Reader> {
     let mut reader = Reader::new(text)?;
-    reader.in_book = true;
+    reader.kind_of_a = Kind::BookA;
     let place = reader.open_count(Kind::SymbolCount);
     let table = reader.symbol_table()?;
     reader.close_count(place, table.symbols.len())?;
@@ -51,6 +51,26 @@ pub fn certificate_fields_over(text: &str, symbols: &Symbols) -> Read<Reader> {
         false => symbols.clone(),
     };
     lines_and_closing(reader)
+}
+
+/// The field list of a call's text, likewise.
+pub fn call_fields_over(text: &str, symbols: &Symbols) -> Read<Reader> {
+    let mut reader = Reader::new(text)?;
+    reader.symbols = match reader.table_follows() {
+        true => reader.symbol_table()?.symbols,
+        false => symbols.clone(),
+    };
+    one_call(reader)
+}
+
+/// One term, and nothing behind it.
+pub fn one_call(mut reader: Reader) -> Read<Reader> {
+    reader.kind_of_a = Kind::CallA;
+    reader.term_as("a call")?;
+    match reader.at_end() {
+        true => Ok(reader),
+        false => reader.expected("the end behind the call"),
+    }
 }
 
 pub fn lines_and_closing(mut reader: Reader) -> Read<Reader> {

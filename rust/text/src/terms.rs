@@ -98,7 +98,7 @@ impl Reader {
 
     /// `^{a,b}`; nothing means `^{0,1}`.
     fn exponent(&mut self, mark: usize) -> Read<()> {
-        let a = if self.in_book { Kind::BookA } else { Kind::A };
+        let a = self.kind_of_a;
         if !self.sign_follows("^") {
             self.put(0, a, mark);
             self.put(1, Kind::B, mark);

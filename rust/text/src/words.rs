@@ -1,7 +1,7 @@
 //! The judge's answers in words. All refusals of docs/RULES.md are in one table here.
 
-use second::answer::{BOOK, CERTIFICATE, CLOSING, LINE, NEITHER};
-use second::{Certificate, Proof, Refusal, Verdict};
+use second::answer::{BOOK, CALL, CERTIFICATE, CLOSING, LINE, NEITHER};
+use second::{Certificate, Coverage, Proof, Refusal, Verdict};
 
 /// The answer in words. The certificate, if it could be read, tells what kind of line a
 /// refusal speaks of.
@@ -11,15 +11,35 @@ pub fn verdict_words(verdict: &Verdict, certificate: Option<&Certificate>) -> St
             "accepted: line {line}, k = {k}, alpha = {alpha}: each call of its left, at index \
              {alpha} or later, has derivations of every length, by some choice of rules"
         ),
-        Verdict::Refused(refusal) => {
-            let proof_of = |certificate: &Certificate| {
-                let line = usize::try_from(refusal.a).ok()?;
-                certificate.lines.get(line).map(|line| line.proof.clone())
-            };
-            let proof = certificate.filter(|_| refusal.w == LINE).and_then(proof_of);
-            format!("refused with {} {}", refusal.number, refusal_words(refusal, proof.as_ref()))
-        }
+        Verdict::Refused(refusal) => refused_words(refusal, certificate),
     }
+}
+
+/// Whether a call is in the accepted family, in words; the certificate as above.
+pub fn coverage_words(coverage: &Coverage, certificate: Option<&Certificate>) -> String {
+    let (pattern, start) = match certificate.map(|certificate| &certificate.closing) {
+        Some(closing) => (format!("left of line {}", closing.line), format!(" {}", closing.alpha)),
+        None => ("the accepted pattern".to_string(), " alpha".to_string()),
+    };
+    match coverage {
+        Coverage::Covered { index } => {
+            format!("covered at index {index}: {pattern}, at this index and filled, is the call")
+        }
+        Coverage::Refused(Refusal { number: 17, .. }) => format!(
+            "not covered: {pattern} is not the call at any index from{start} on, however it is \
+             filled"
+        ),
+        Coverage::Refused(refusal) => refused_words(refusal, certificate),
+    }
+}
+
+fn refused_words(refusal: &Refusal, certificate: Option<&Certificate>) -> String {
+    let proof_of = |certificate: &Certificate| {
+        let line = usize::try_from(refusal.a).ok()?;
+        certificate.lines.get(line).map(|line| line.proof.clone())
+    };
+    let proof = certificate.filter(|_| refusal.w == LINE).and_then(proof_of);
+    format!("refused with {} {}", refusal.number, refusal_words(refusal, proof.as_ref()))
 }
 
 /// Where it was refused, and why.
@@ -37,6 +57,7 @@ fn place(refusal: &Refusal, proof: Option<&Proof>) -> String {
     match (*w, number) {
         (BOOK, 3..=7) => format!("in the book, at bit {a}"),
         (CERTIFICATE, 3..=7) => format!("in the certificate, at bit {a}"),
+        (CALL, _) => format!("in the call, at bit {a}"),
         (BOOK, _) => "in the book".to_string(),
         (CERTIFICATE, _) => "in the certificate".to_string(),
         (LINE, _) => format!("in line {a}{kind}, part {b}"),
@@ -65,6 +86,7 @@ fn reason(refusal: &Refusal, proof: Option<&Proof>) -> String {
         (13, _) => "right has an index: a power whose a is not 0",
         (14, _) => "right is the empty mark",
         (16, _) => return format!("{first} or {second} has over 1,024 nodes"),
+        (17, _) => "the call is not in the accepted family",
         _ => "there is no such number",
     };
     words.to_string()

@@ -158,6 +158,68 @@ fn files_there_and_back() {
     }
 }
 
+/// A call may have a symbol list; without one it has the names of a book that is text, or
+/// names by number.
+#[test]
+fn calls_there_and_back() {
+    let folder = folder("calls");
+    let book = "symbols f/2, s/1, 0/0.\nf(X, Y) :- f(X, Y).\n";
+    std::fs::write(folder.join("two.txt"), book).unwrap();
+    std::fs::write(folder.join("two"), text::pack_book_text(book).unwrap()).unwrap();
+    let packed = [0x40, 0x20, 0x10, 0x00, 0x00, 0x20, 0x01, 0x70];
+    let text = "f(s^{0,2}(A), X)\n";
+    std::fs::write(folder.join("call"), packed).unwrap();
+    std::fs::write(folder.join("call.txt"), text).unwrap();
+    for (words, input) in [
+        (["pack-call", "two.txt"], text),
+        (["pack-call", "two"], "f0(u1^{0,2}(A), X)"),
+        (["pack-call", "two"], "symbols g/2, t/1, 0/0. g(t^{0,2}(V0), X)"),
+    ] {
+        gives(run_on(&folder, &words, input.as_bytes()), &packed);
+    }
+    gives(run(&folder, &["pack-call", "two.txt", "call.txt"]), &packed);
+    gives(run(&folder, &["print-call", "two.txt", "call"]), text.as_bytes());
+    gives(run(&folder, &["print-call", "two.txt", "call.txt"]), text.as_bytes());
+    gives(run(&folder, &["print-call", "two", "call"]), b"f0(u1^{0,2}(A), X)\n");
+    let words = ["print-call", "--names", "two.txt", "two"];
+    gives(run_on(&folder, &words, &packed), text.as_bytes());
+    let wrong = |input: &str| run_on(&folder, &["pack-call", "two.txt"], input.as_bytes());
+    let message = |words: &str| format!("standard input:{words}\n");
+    let index = "1:6: expected a = 0 in a call, found `1` (refuse 4 5 4 0)";
+    stops(wrong("f(s^{1,2}(A), X)"), 1, &message(index));
+    let again =
+        "1:5: expected one power, or another symbol than the one directly above, found `s` \
+                 (refuse 5 5 7 0)";
+    stops(wrong("f(s(s(A)), X)"), 1, &message(again));
+    let more = "1:9: expected the end behind the call, found `.`";
+    stops(wrong("f(X, X) ."), 1, &message(more));
+    stops(wrong(""), 1, &message("1:1: expected a call, found the end"));
+    let other = "1:9: expected `f/2`, symbol 0 of the book, found `g/2`";
+    stops(wrong("symbols g/2, s/1, 0/0. g(X, X)"), 1, &message(other));
+    std::fs::write(folder.join("long"), [&packed[..], &[0]].concat()).unwrap();
+    let message = "long: in the call, at bit 60: something is left over behind the last field \
+                   (refuse 7 5 60 0)\n";
+    stops(run(&folder, &["print-call", "two", "long"]), 1, message);
+}
+
+/// Who asks for a call is told how, and nobody is asked with other words.
+#[test]
+fn covers_has_its_own_words() {
+    let folder = folder("covers");
+    let usage = String::from_utf8(run(&folder, &["help", "covers"]).stdout).unwrap();
+    let wrong = format!("`covers` is used otherwise\n{usage}");
+    for words in [
+        &["covers"][..],
+        &["covers", "book", "certificate"],
+        &["covers", "book", "certificate", "call", "more"],
+        &["covers", "book", "certificate", "--term"],
+        &["covers", "book", "certificate", "--terms", "a"],
+    ] {
+        stops(run(&folder, words), 2, &wrong);
+    }
+    gives(run(&folder, &["covers", "book", "certificate", "--help"]), usage.as_bytes());
+}
+
 #[test]
 fn frames() {
     let folder = folder("frames");

@@ -1,19 +1,26 @@
 //! The vectors of data/: what they meet, that the accepted ones run, and that they
 //! are packed as they stand.
 
-use second::derive::{derive, replay, Limits};
-use second::files::parse_both;
-use second::replay::PlainFilling;
+use second::derive::{derive, plain_at, replay, Limits};
+use second::files::{parse_both, parse_call};
+use second::replay::{has_filling, PlainFilling};
 use std::collections::BTreeSet;
 use std::path::{Path, PathBuf};
+use std::sync::OnceLock;
 use text::vectors::{expected_output, pack_vectors, parse_vectors, File, Operation, Vector};
 
 fn top() -> PathBuf {
     Path::new(env!("CARGO_MANIFEST_DIR")).join("../..")
 }
 
-/// All vectors, the files in the order of their names.
+/// All vectors, read once.
 fn vectors() -> Vec<Vector> {
+    static ALL: OnceLock<Vec<Vector>> = OnceLock::new();
+    ALL.get_or_init(read_vectors).clone()
+}
+
+/// All vectors, the files in the order of their names.
+fn read_vectors() -> Vec<Vector> {
     let folder = std::fs::read_dir(top().join("data")).unwrap();
     let mut files: Vec<PathBuf> = folder.map(|entry| entry.unwrap().path()).collect();
     files.sort();
@@ -28,9 +35,16 @@ fn vectors() -> Vec<Vector> {
         .collect()
 }
 
+/// The vectors that the program `cases` runs: it doesn't know `covers` yet.
+fn packed_ones() -> Vec<Vector> {
+    let mut vectors = vectors();
+    vectors.retain(|vector| vector.operation != Operation::Covers);
+    vectors
+}
+
 #[test]
 fn they_are_packed_as_they_stand() {
-    let vectors = vectors();
+    let vectors = packed_ones();
     let stored = |name: &str| std::fs::read(top().join("crates/cases").join(name)).unwrap();
     let again = "pack them again: docs/TEXT.md, Vectors";
     assert!(pack_vectors(&vectors) == stored("stdin"), "{again}");
@@ -54,11 +68,14 @@ fn met() -> BTreeSet<String> {
         Operation::ReadCertificate => "read-certificate",
         Operation::WriteBook => "write-book",
         Operation::WriteCertificate => "write-certificate",
+        Operation::Covers => "covers",
     };
     let place = |vector: &Vector| {
         let words: Vec<&str> = vector.answer.split(' ').collect();
         match words[..] {
-            ["refuse", number, w, _, part] if number.len() > 1 || number == "9" => {
+            ["refuse", number, w, _, part]
+                if vector.operation == Operation::Judge && (number.len() > 1 || number == "9") =>
+            {
                 format!("{number} {w} {part}")
             }
             ["refuse", number, w, _, _] => format!("{} {number} {w}", kind(vector.operation)),
@@ -91,6 +108,53 @@ fn every_refusal_and_part_is_met() {
         assert!(met.contains(&format!("{operation} filled")));
         assert!(met.contains(&format!("{operation} 8 {w}")), "{operation}");
     }
+}
+
+#[test]
+fn every_refusal_of_a_call_is_met() {
+    let met = met();
+    let judged = [
+        "1 4", "2 0", "2 1", "3 0", "3 1", "4 1", "5 1", "7 0", "7 1", "9 2", "10 2", "11 2",
+        "12 2", "13 2", "14 3", "15 3", "16 2",
+    ];
+    let own = ["3 5", "4 5", "5 5", "6 5", "7 5", "17 4"];
+    for wanted in judged.iter().chain(&own) {
+        assert!(met.contains(&format!("covers {wanted}")), "{wanted}");
+    }
+    let indices: BTreeSet<String> = vectors()
+        .iter()
+        .filter(|vector| vector.operation == Operation::Covers)
+        .filter_map(|vector| vector.answer.strip_prefix("covered ").map(str::to_string))
+        .collect();
+    for index in ["0", "1", "2", "3", "4094", "4095"] {
+        assert!(indices.contains(index), "{index}");
+    }
+}
+
+/// A call that is covered is the pattern at that index, filled, and at none before it: by
+/// plain terms, where these are not too large.
+#[test]
+fn covered_calls_are_the_pattern() {
+    let most = 1_000;
+    let none = PlainFilling::new();
+    let mut covered = 0;
+    for vector in vectors() {
+        let Some(index) = vector.answer.strip_prefix("covered ") else { continue };
+        let index: u64 = index.parse().unwrap();
+        let (book, certificate) = parse_both(vector.first.bytes(), vector.second.bytes()).unwrap();
+        let call = parse_call(&book, vector.third.bytes()).unwrap();
+        let line = usize::from(certificate.closing.line);
+        let pattern = &certificate.lines[line].left;
+        let Ok(call) = plain_at(&call, 0, &none, most) else { continue };
+        for earlier in certificate.closing.alpha..=index {
+            // A pattern that is too large is larger than the call.
+            let plain = plain_at(pattern, earlier, &none, most).unwrap_or_default();
+            let found = has_filling(&plain, &call, &book.arities);
+            assert_eq!(found, earlier == index, "{} at {earlier}", vector.name);
+        }
+        covered += 1;
+    }
+    assert!(covered > 30, "{covered}");
 }
 
 /// Each accepted certificate is played from three indices.

@@ -1,10 +1,10 @@
 //! The judge's answers in words: each refusal of docs/RULES.md, and each part.
 
-use second::answer::{BOOK, CERTIFICATE, CLOSING, LINE, NEITHER};
-use second::{Certificate, Closing, Line, Proof, Refusal, Term, Use, Verdict};
+use second::answer::{BOOK, CALL, CERTIFICATE, CLOSING, LINE, NEITHER};
+use second::{Certificate, Closing, Coverage, Line, Proof, Refusal, Term, Use, Verdict};
 use std::path::Path;
 use text::vectors::{parse_vectors, Operation, Vector};
-use text::words::verdict_words;
+use text::words::{coverage_words, verdict_words};
 
 fn used() -> Use {
     Use { line: 0, i: 1, j: 0, filling: Vec::new() }
@@ -132,6 +132,42 @@ fn refusals_of_the_closing() {
         let place = format!("in the closing, line 4, part {part}");
         assert_eq!(found, format!("refused with {number} {place}: {expected}"));
     }
+}
+
+#[test]
+fn calls() {
+    let certificate = certificate(unfold(0, None));
+    let words = |coverage: Coverage| coverage_words(&coverage, Some(&certificate));
+    let refused = |number: u8, w: u8| Coverage::Refused(Refusal::new(number, w, 5, 0));
+    let expected = "covered at index 3: left of line 0, at this index and filled, is the call";
+    assert_eq!(words(Coverage::Covered { index: 3 }), expected);
+    let expected = "not covered: left of line 0 is not the call at any index from 0 on, however \
+                    it is filled";
+    assert_eq!(words(Coverage::Refused(Refusal::placeless(17, NEITHER))), expected);
+    let cases = [
+        (3, CALL, "in the call, at bit 5: the file ends before the field that begins there does"),
+        (
+            4,
+            CALL,
+            "in the call, at bit 5: the field that begins there has a value that is not allowed",
+        ),
+        (
+            5,
+            CALL,
+            "in the call, at bit 5: a term is not normal: a power below its like, or one with a \
+             = b = 0",
+        ),
+        (6, CALL, "in the call, at bit 5: a 257th node of a term would begin there"),
+        (7, CALL, "in the call, at bit 5: something is left over behind the last field"),
+        (7, BOOK, "in the book, at bit 5: something is left over behind the last field"),
+    ];
+    for (number, w, expected) in cases {
+        assert_eq!(words(refused(number, w)), format!("refused with {number} {expected}"));
+    }
+    let line = Coverage::Refused(Refusal::new(9, LINE, 0, 0));
+    let expected = "refused with 9 in line 0, an unfold, part 0: the rule's head, filled, is not \
+                    left";
+    assert_eq!(words(line), expected);
 }
 
 fn vectors() -> Vec<Vector> {

@@ -2,14 +2,15 @@
 
 use crate::declared::calls;
 use compare::proved::Side;
-use second::{Answer, Refusal, Verdict};
+use second::{Answer, Coverage, Refusal, Verdict};
 use std::io::{ErrorKind, Write};
 use std::path::{Path, PathBuf};
 use std::process::{Command, Stdio};
 
 /// As call.c lists them.
-pub const FUNCTIONS: [&str; 5] = [
+pub const FUNCTIONS: [&str; 6] = [
     "gearcinder_judge",
+    "gearcinder_covers",
     "gearcinder_read_book",
     "gearcinder_read_certificate",
     "gearcinder_write_book",
@@ -66,7 +67,7 @@ pub struct FromC {
 }
 
 impl FromC {
-    /// One call: the numbers of its answer.
+    /// One call without a third input.
     fn call<A: Plain, B: Plain, T: Plain>(
         &self,
         function: &str,
@@ -74,10 +75,24 @@ impl FromC {
         second: &[B],
         lent: &mut [T],
     ) -> [u64; 5] {
+        self.call_of_three(function, first, second, &NOTHING, lent)
+    }
+
+    /// One call: the numbers of its answer.
+    fn call_of_three<A: Plain, B: Plain, T: Plain>(
+        &self,
+        function: &str,
+        first: &[A],
+        second: &[B],
+        third: &[u8],
+        lent: &mut [T],
+    ) -> [u64; 5] {
         let place = FUNCTIONS.iter().position(|name| *name == function).expect("a function");
-        let head = [place, first.len(), second.len(), lent.len()].map(|number| number as u64);
+        let lengths = [place, first.len(), second.len(), third.len(), lent.len()];
+        let head = lengths.map(|number| number as u64);
         let (memory, answer) = (guarded(lent), guarded(&[7u64; 5]));
-        let input = [bytes(&head), bytes(first), bytes(second), memory.clone(), answer].concat();
+        let inputs = [bytes(&head), bytes(first), bytes(second), bytes(third)].concat();
+        let input = [inputs, memory.clone(), answer].concat();
         let mut child = Command::new(&self.program)
             .stdin(Stdio::piped())
             .stdout(Stdio::piped())
@@ -98,6 +113,14 @@ impl Side for FromC {
             [0, line, k, alpha, 0] => Verdict::Accepted { line, k, alpha },
             [1, number, w, a, b] => Verdict::Refused(Refusal::new(number as u8, w as u8, a, b)),
             numbers => panic!("{numbers:?} is no verdict"),
+        }
+    }
+
+    fn covers(&self, book: &[u8], certificate: &[u8], call: &[u8], work: &mut [u64]) -> Coverage {
+        match self.call_of_three("gearcinder_covers", book, certificate, call, work) {
+            [0, index, 0, 0, 0] => Coverage::Covered { index },
+            [1, number, w, a, b] => Coverage::Refused(Refusal::new(number as u8, w as u8, a, b)),
+            numbers => panic!("{numbers:?} is no answer"),
         }
     }
 

@@ -5,12 +5,14 @@
 mod declared;
 mod from_c;
 
+use compare::calls::ask_both;
 use compare::coverage::Coverage;
 use compare::files::perform_both;
 use compare::judging::{files_of, judge_both};
 use compare::Compared;
 use declared::{declared, defined};
 use from_c::{compiled, FromC, Language, C, CPP, FUNCTIONS};
+use generate::calls::Calls;
 use generate::inputs::Inputs;
 use generate::random::Random;
 use generate::writing::Tasks;
@@ -22,7 +24,7 @@ const HEADER: &str = include_str!("../../../../include/gearcinder.h");
 fn compared(side: &FromC) -> Compared<Coverage> {
     let mut random = Random::new(1);
     let mut coverage = Coverage::default();
-    let (mut inputs, mut tasks) = (Inputs::new(1), Tasks::new(1));
+    let (mut inputs, mut tasks, mut calls) = (Inputs::new(1), Tasks::new(1), Calls::new(1));
     for _ in 0..100 {
         let input = inputs.next_input();
         let (book, certificate) = files_of(&input);
@@ -33,6 +35,11 @@ fn compared(side: &FromC) -> Compared<Coverage> {
         let task = tasks.next_task();
         let answer = perform_both(side, &task, &mut random)?;
         coverage.performed(&task, &answer);
+    }
+    for _ in 0..150 {
+        let asking = calls.next_call();
+        let answer = ask_both(side, &asking, &mut random)?;
+        coverage.asked(&asking, &answer);
     }
     Ok(coverage)
 }
@@ -45,6 +52,10 @@ fn agrees(side: &FromC) {
         "judge:  1 neither",
         "judge:  4 certificate",
         "judge:  9 line, unfold part 0",
+        "covers: covered: at alpha",
+        "covers: 17, made as ExponentOff",
+        "covers:  1 neither",
+        "covers:  4 call",
         "read-book: filled",
         "read-book:  8 book",
         "read-certificate: filled",
@@ -59,7 +70,7 @@ fn agrees(side: &FromC) {
 }
 
 #[test]
-fn it_declares_the_five_functions() {
+fn it_declares_the_six_functions() {
     let names: Vec<String> = declared(HEADER).into_iter().map(|(name, _)| name).collect();
     assert_eq!(names, FUNCTIONS);
 }
@@ -106,6 +117,11 @@ fn wrong_headers_are_found() {
     let read_files = "const uint8_t *book, size_t book_length,
                                  const uint8_t *certificate, size_t certificate_length,
                                  uint16_t";
+    let call_and_work = "const uint8_t *certificate, size_t certificate_length,
+                       const uint8_t *call, size_t call_length,";
+    let swapped_calls = |files: &str| {
+        files.replace("call", "?").replace("certificate", "call").replace("?", "certificate")
+    };
     let swapped = |files: &str| {
         files.replace("book", "?").replace("certificate", "book").replace("?", "certificate")
     };
@@ -116,6 +132,10 @@ fn wrong_headers_are_found() {
     let changes = [
         (judge_files, &*swapped(judge_files)),
         (judge_files, &*lengths_swapped(judge_files)),
+        (call_and_work, &*swapped_calls(call_and_work)),
+        ("const uint8_t *call, size_t call_length,", ""),
+        ("void gearcinder_covers", "uint64_t gearcinder_covers"),
+        ("const uint8_t *call", "uint8_t *call"),
         (read_files, &*swapped(read_files)),
         (read_files, &*lengths_swapped(read_files)),
         ("uint64_t *work, size_t work_length", "size_t work_length, uint64_t *work"),

@@ -7,7 +7,7 @@ use text::vectors::{
 
 /// What the proved side makes of a vector; it has no operation for a whole input.
 pub fn outcome(vector: &Vector) -> Option<Outcome> {
-    let (first, second) = (&vector.first, &vector.second);
+    let (first, second, third) = (&vector.first, &vector.second, &vector.third);
     let mut work = vec![FRESH_WORK; vector.lent];
     let mut list = vec![FRESH_FIELD; vector.lent];
     let mut bytes = vec![FRESH_BYTE; vector.lent];
@@ -16,6 +16,10 @@ pub fn outcome(vector: &Vector) -> Option<Outcome> {
         Operation::Judge => {
             let verdict = Proved.judge(first.bytes(), second.bytes(), &mut work);
             (second::verdict_line(&verdict), sum(work))
+        }
+        Operation::Covers => {
+            let coverage = Proved.covers(first.bytes(), second.bytes(), third.bytes(), &mut work);
+            (second::coverage_line(&coverage), sum(work))
         }
         Operation::ReadBook => (in_words(Proved.read_book(first.bytes(), &mut list)), sum(list)),
         Operation::ReadCertificate => {

@@ -1,5 +1,6 @@
 //! What the generator promises, shown on many inputs.
 
+mod calls;
 mod files;
 mod inputs;
 mod meaning;

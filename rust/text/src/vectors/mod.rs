@@ -8,7 +8,7 @@ mod rewriting;
 pub use parsing::parse_vectors;
 
 use second::judging::WORK_NUMBERS;
-use second::{verdict_line, Answer, Verdict};
+use second::{coverage_line, verdict_line, Answer, Verdict};
 
 /// What stands everywhere in lent memory before a call.
 pub const FRESH_WORK: u64 = 7;
@@ -24,6 +24,7 @@ pub enum Operation {
     ReadCertificate = 3,
     WriteBook = 4,
     WriteCertificate = 5,
+    Covers = 6,
 }
 
 /// A file in its bytes, or the list of its fields.
@@ -79,6 +80,8 @@ pub struct Vector {
     pub first: File,
     /// The certificate, if the operation takes one.
     pub second: File,
+    /// The call, if the operation takes one.
+    pub third: File,
     /// The answer that the text states.
     pub answer: String,
 }
@@ -97,7 +100,15 @@ impl Vector {
             Operation::Judge | Operation::Input => self.judged(),
             Operation::ReadBook | Operation::ReadCertificate => self.read(),
             Operation::WriteBook | Operation::WriteCertificate => self.written(),
+            Operation::Covers => self.asked(),
         }
+    }
+
+    fn asked(&self) -> Outcome {
+        let mut work = vec![FRESH_WORK; self.lent];
+        let (book, certificate) = (self.first.bytes(), self.second.bytes());
+        let coverage = second::covers(book, certificate, self.third.bytes(), &mut work);
+        Outcome { answer: coverage_line(&coverage), left: sum(work) }
     }
 
     fn judged(&self) -> Outcome {
@@ -148,9 +159,13 @@ impl Vector {
         bytes.extend(short(self.lent));
         bytes.extend(short(self.first.len()));
         bytes.extend(short(self.second.len()));
+        if self.operation == Operation::Covers {
+            bytes.extend(short(self.third.len()));
+        }
         bytes.extend(self.name.as_bytes());
         bytes.extend(self.first.spelled());
         bytes.extend(self.second.spelled());
+        bytes.extend(self.third.spelled());
         bytes
     }
 }

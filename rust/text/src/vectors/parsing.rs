@@ -5,7 +5,7 @@ use super::rewriting::rewritten;
 use super::{frame, File, Operation, Vector, USUAL_WORK};
 use crate::errors::expected_found;
 use crate::lexer::Position;
-use crate::statements::{book_fields, certificate_fields_over};
+use crate::statements::{book_fields, call_fields_over, certificate_fields_over};
 use crate::symbols::Symbols;
 use crate::TextError;
 use second::spell::Field;
@@ -112,6 +112,7 @@ struct Draft {
     symbols: Symbols,
     book: Option<Contents>,
     certificate: Option<Contents>,
+    call: Option<Contents>,
     input: Option<Contents>,
     /// Which file the changes that follow are of.
     last: Option<Which>,
@@ -121,6 +122,7 @@ struct Draft {
 enum Which {
     Book,
     Certificate,
+    Call,
     Input,
 }
 
@@ -134,6 +136,7 @@ impl Draft {
             symbols: Symbols::default(),
             book: None,
             certificate: None,
+            call: None,
             input: None,
             last: None,
         }
@@ -147,6 +150,7 @@ impl Draft {
             ["read-certificate"] => self.operation = Some(Operation::ReadCertificate),
             ["write-book"] => self.operation = Some(Operation::WriteBook),
             ["write-certificate"] => self.operation = Some(Operation::WriteCertificate),
+            ["covers"] => self.operation = Some(Operation::Covers),
             ["work", count] => self.work = Some(number(count).or_else(|f| section.wrong(f))?),
             ["room", count] => self.room = Some(number(count).or_else(|f| section.wrong(f))?),
             ["book", rest @ ..] => {
@@ -157,6 +161,10 @@ impl Draft {
                 self.certificate = Some(self.contents(Which::Certificate, rest, section, texts)?);
                 self.last = Some(Which::Certificate);
             }
+            ["call", rest @ ..] => {
+                self.call = Some(self.contents(Which::Call, rest, section, texts)?);
+                self.last = Some(Which::Call);
+            }
             ["frame", rest @ ..] => {
                 self.input = Some(self.framed(rest).or_else(|fault| section.wrong(fault))?);
                 self.last = Some(Which::Input);
@@ -165,6 +173,7 @@ impl Draft {
                 let contents = match self.last {
                     Some(Which::Book) => self.book.as_mut(),
                     Some(Which::Certificate) => self.certificate.as_mut(),
+                    Some(Which::Call) => self.call.as_mut(),
                     Some(Which::Input) => self.input.as_mut(),
                     None => None,
                 };
@@ -178,7 +187,7 @@ impl Draft {
         Ok(())
     }
 
-    /// What follows `book` or `certificate`: hex, numbers, a name, or text.
+    /// What follows `book`, `certificate` or `call`: hex, numbers, a name, or text.
     fn contents(
         &mut self,
         which: Which,
@@ -218,6 +227,7 @@ impl Draft {
                 self.symbols = reader.symbols;
                 Ok(Contents::Fields(reader.fields))
             }
+            Which::Call => Ok(Contents::Fields(call_fields_over(text, &self.symbols)?.fields)),
             _ => Ok(Contents::Fields(certificate_fields_over(text, &self.symbols)?.fields)),
         }
     }
@@ -239,7 +249,7 @@ impl Draft {
         let room = || self.room.ok_or(expected_found("`room`", "none"));
         let (book, certificate) = (&self.book, &self.certificate);
         let (first, second, lent) = match operation {
-            Operation::Judge => {
+            Operation::Judge | Operation::Covers => {
                 let work = self.work.unwrap_or(USUAL_WORK);
                 (File::Bytes(bytes_of(book)?), File::Bytes(bytes_of(certificate)?), work)
             }
@@ -256,13 +266,17 @@ impl Draft {
                 (File::Bytes(bytes_of(book)?), File::List(list_of(certificate)?), room()?)
             }
         };
-        if [first.len(), second.len(), lent].into_iter().any(|length| length > 0xFFFF)
+        let third = match operation {
+            Operation::Covers => File::Bytes(bytes_of(&self.call)?),
+            _ => File::nothing(),
+        };
+        if [first.len(), second.len(), third.len(), lent].into_iter().any(|length| length > 0xFFFF)
             || self.name.len() > 0xFF
         {
             return Err("too long to be packed".to_string());
         }
         let (name, answer) = (self.name.clone(), answer.join(" "));
-        Ok(Vector { name, operation, lent, first, second, answer })
+        Ok(Vector { name, operation, lent, first, second, third, answer })
     }
 }
 
