@@ -23,7 +23,10 @@ pub fn coverage_words(coverage: &Coverage, certificate: Option<&Certificate>) ->
     };
     match coverage {
         Coverage::Covered { index } => {
-            format!("covered at index {index}: {pattern}, at this index and filled, is the call")
+            format!(
+                "covered at index {index}: {pattern}, at this index and filled, is the call; \
+                 so it has derivations of every length, by some choice of rules"
+            )
         }
         Coverage::Refused(Refusal { number: 17, .. }) => format!(
             "not covered: {pattern} is not the call at any index from{start} on, however it is \

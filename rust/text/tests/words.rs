@@ -139,7 +139,8 @@ fn calls() {
     let certificate = certificate(unfold(0, None));
     let words = |coverage: Coverage| coverage_words(&coverage, Some(&certificate));
     let refused = |number: u8, w: u8| Coverage::Refused(Refusal::new(number, w, 5, 0));
-    let expected = "covered at index 3: left of line 0, at this index and filled, is the call";
+    let expected = "covered at index 3: left of line 0, at this index and filled, is the call; \
+                    so it has derivations of every length, by some choice of rules";
     assert_eq!(words(Coverage::Covered { index: 3 }), expected);
     let expected = "not covered: left of line 0 is not the call at any index from 0 on, however \
                     it is filled";
