@@ -1,6 +1,7 @@
 //! What calls met: the answer, the place, and how the call was made.
 
-use crate::calls::{count_variables, Asking, Calls, Made};
+use crate::calls::{Asking, Calls, Made};
+use crate::family::count_variables;
 use second::covering::{is_call_at, LAST_INDEX};
 use second::files::{parse_both, parse_call};
 use second::judging::WORK_NUMBERS;

@@ -5,6 +5,7 @@
 pub mod asked;
 pub mod calls;
 pub mod damage;
+pub mod family;
 pub mod faults;
 pub mod hex;
 pub mod inputs;

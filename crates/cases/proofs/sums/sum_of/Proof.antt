@@ -1,8 +1,8 @@
--- `cases::sum_of` is safe and ends: what is left of n falls.
+-- `cases::sums::sum_of` is safe and ends: what is left of n falls.
 use Prim.Native.Nat.{_≤_, _-_}
 use borrow.Author.Needs.{needs}
-use Rattle.cases.proofs.sum_of.Statement.{statement}
-use Rattle.cases.proofs.sum_of.Tie as tie
+use Rattle.cases.proofs.sums.sum_of.Statement.{statement}
+use Rattle.cases.proofs.sums.sum_of.Tie as tie
 
 abbrev Inv-loop : tie.InvT-loop
 Inv-loop numbers fields bytes n sum₀ i₀ sum i = i ≤ n
