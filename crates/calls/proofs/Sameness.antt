@@ -3,7 +3,7 @@ use Prim.Native.Nat.{ℕ, zero, suc, _+_, _*_, _-_, _≤_, _<_, _%_, _/_}
 use mathlib.Core.Path.{_≡_, refl, sym, _∙_, ap, ap₂, subst}
 use mathlib.Core.Logic.{_↔_, _≢_}
 use mathlib.Core.Bool.{Bool, true, false}
-use mathlib.Core.List.{List, [], _∷_, _++_}
+use mathlib.Core.List.{List, [], _∷_, _++_, append-cancel-right}
 use native.Mathlib.Decide.{ℕ-discrete, decLe}
 use native.Mathlib.Omega.{arith}
 use lib.ListN.{length, getD}
@@ -155,16 +155,6 @@ module _ {w : List ℕ} {p q : Place} {n : ℕ} where
 
 -- ---- a whole term
 
-length-append : (ms ks : Left) → length (ms ++ ks) ≡ length ms + length ks
-length-append [] ks = omega arith
-length-append (m ∷ ms) ks = omega (arith, length-append ms ks)
-
-fronts : (ms ks us vs : Left) → length ms ≡ length ks → ms ++ us ≡ ks ++ vs → ms ≡ ks
-fronts [] [] us vs l e = refl
-fronts [] (k ∷ ks) us vs l e = absurd (omega arith)
-fronts (m ∷ ms) [] us vs l e = absurd (omega arith)
-fronts (m ∷ ms) (k ∷ ks) us vs l e = ap₂ _∷_ (cc) (fronts ms ks us vs (omega arith) (cc))
-
 module _ {w : List ℕ} {k : ℕ} (s : Spans w k 0) where
   -- its nodes are those up to its end
   pub term-nodes : {j : ℕ} → j < k → Term w k j (end-of w j - j)
@@ -188,8 +178,7 @@ module _ {w : List ℕ} {k : ℕ} (s : Spans w k 0) where
       told ar e =
           let cut : taken ar (rest w k j) 1 ++ rest w k (end-of w j) ≡ nodes-from w j n ++ rest w k (end-of w j) =
           ap (λ ms. taken ar (rest w k j) 1 ++ ms) (sym (e .each j (omega arith) h)) ∙ both ar (rest w k j) 1 ∙ split in
-          fronts _ _ _ _
-          (omega (arith, ap length cut, length-append (taken ar (rest w k j) 1) (rest w k (end-of w j)), length-append (nodes-from w j n) (rest w k (end-of w j)))) cut
+          append-cancel-right _ _ _ cut
 
 module _ (w : List ℕ) (k : ℕ) where
   -- nothing is left from a place on

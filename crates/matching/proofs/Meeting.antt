@@ -4,7 +4,7 @@ use mathlib.Core.Path.{_≡_, refl, sym, _∙_, ap, ap₂, subst}
 use mathlib.Core.Logic.{_≢_, ite, if-pos, if-neg}
 use mathlib.Core.List.{List, [], _∷_}
 use mathlib.Core.Bool.{Bool, true, false}
-use mathlib.Core.Option.{Option, none, some, bind}
+use mathlib.Core.Option.{none, some}
 use lib.ListN.{length, getD}
 use borrow.Author.Tests.{lt-ltb}
 use Rattle.patterns.specs.Term.{Node, nvar, nfun, npow}
@@ -12,6 +12,7 @@ use Rattle.patterns.specs.First.{value}
 use Rattle.patterns.specs.Push.{retag}
 use Rattle.covering.specs.Left.{Left, left?, taken, behind, under, below}
 use Rattle.covering.specs.Walk.{State, on-at, meet, step, walk}
+use Rattle.covering.proofs.Matching.{bind-some}
 use Rattle.table.specs.Places.{WORDS, NODES, BOUND, OFF}
 use Rattle.table.proofs.Writes.{kept-self}
 use Rattle.table.proofs.Comparing.{says-true, says-false}
@@ -28,11 +29,6 @@ use Rattle.calls.specs.declared.Move.the-variants.{On, Off}
 use Rattle.matching.specs.Bound.{bindings, state-at, arrived}
 use Rattle.matching.specs.Matching.{Matches}
 use Rattle.matching.proofs.Bound.{left-kept, unbound-term, bound-term, taking, taking-kept, taking-bound}
-
-bind-some : (o : Option State) → bind o (λ z. some z) ≡ o
-unfolding bind
-bind-some none = refl
-bind-some (some z) = refl
 
 -- one node is one step
 single-step : (ar : ℕ → ℕ) (n : Node ℕ) (z : State) → walk ar (n ∷ []) z ≡ step ar n z
