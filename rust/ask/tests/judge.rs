@@ -142,7 +142,7 @@ fn covered() {
     put("call", &text::pack_call_named(&book, Some(&names), term).unwrap());
     put("call.txt", term.as_bytes());
     let expected = "covered 3\ncovered at index 3: left of line 4, at this index and filled, is \
-                    the call\n";
+                    the call; so it has derivations of every length, by some choice of rules\n";
     let files = ["covers", "book.txt", "certificate"];
     for call in [&["call"][..], &["call.txt"], &["--term", term]] {
         answers(run(&folder, &[&files, call].concat()), 0, expected);
