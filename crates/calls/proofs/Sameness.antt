@@ -17,7 +17,7 @@ use Rattle.table.specs.Places.{FIRST}
 use Rattle.table.specs.Nodes.{nodeOf, nodeAt}
 use Rattle.table.specs.Answer.{Says}
 use Rattle.table.proofs.Nodes.{TellsNode, is-var, is-fun, is-pow, tells, is-power, no-power}
-use Rattle.table.proofs.Comparing.{says-true, says-false}
+use Rattle.table.proofs.Answer.{says-true, says-false}
 use Rattle.calls.specs.Standing.{counted, node-of, nodes-from, rest, less, lessened, left-at, end-of, Spans, Ends}
 use Rattle.calls.specs.Moving.{Term, SameTerms}
 use Rattle.calls.specs.declared.Place.{Place}

@@ -16,7 +16,7 @@ use Rattle.patterns.specs.Demand.{Met, level}
 use Rattle.patterns.specs.Judge.{check}
 use Rattle.grammar.specs.Listing.{if-any, term-fields}
 use Rattle.table.specs.Answer.{Says}
-use Rattle.table.proofs.Comparing.{says-true, says-false}
+use Rattle.table.proofs.Answer.{says-true, says-false}
 use Rattle.instances.specs.Instances.{Levels}
 use Rattle.instances.specs.declared.Read.{Read}
 use Rattle.comparing.specs.declared.Found.{Found}

@@ -2,7 +2,7 @@
 -- reindexed, and filled by nothing or by a use's filling.
 use Prim.Native.Nat.{ℕ}
 use mathlib.Core.Path.{_≡_}
-use mathlib.Core.List.{List}
+use mathlib.Core.List.{List, []}
 use mathlib.Core.Option.{none, some, Option·map}
 use Rattle.patterns.specs.Term.{Filling, fill}
 use Rattle.patterns.specs.Edition.{reindex}
@@ -10,7 +10,11 @@ use Rattle.patterns.specs.Certificate.{Mark}
 use Rattle.patterns.specs.First.{Exp, Pattern, one}
 use Rattle.patterns.specs.Demand.{small, same, Met}
 use Rattle.table.specs.Places.{EMPTY, OWN, USED, FIRST, SIDE}
+use Rattle.table.specs.Nodes.{side}
 use Rattle.table.specs.Sides.{Kept}
+use Rattle.table.specs.Marks.{formNodes}
+use Rattle.table.specs.Second.{Comes}
+use Rattle.table.specs.declared.Outcome.{Outcome}
 use Rattle.comparing.specs.declared.Subject.{Subject}
 use Rattle.comparing.specs.declared.Subject.the-variants.{Empty, Call, Claimed}
 use Rattle.comparing.specs.declared.Filled.{Filled}
@@ -44,11 +48,19 @@ Means book cert w Empty m end = (m ≡ none) × (end ≡ 0)
 Means book cert w (Call at) m end = InstanceAt book book cert w at 1 0 OWN m end
 Means book cert w (Claimed at i j f) m end = InstanceAt book cert cert w at i j (fills-of f) m end
 
--- a side was built
-pub record Sided (book cert : List ℕ) (base : ℕ) (a : Subject) (w after : List ℕ) (r : Side) : Type 0 where
-  pub told : (m : Mark Exp) (end : ℕ) → Means book cert w a m end → Stored base m end after r
+-- the first side was built
+pub record Sided (book cert : List ℕ) (a : Subject) (w after : List ℕ) (r : Side) : Type 0 where
+  pub told : (m : Mark Exp) (end : ℕ) → Means book cert w a m end → Stored FIRST m end after r
   pub few : FewNodes r
-  pub kept : Kept base SIDE w after
+  pub kept : Kept FIRST SIDE w after
+
+-- the second side was held against the n nodes of the first
+pub record Seconded (book cert : List ℕ) (n : ℕ) (b : Subject) (w : List ℕ) (r : Outcome) : Type 0 where
+  pub told : (k : Mark Exp) (end : ℕ) → Means book cert w b k end → Comes (side w FIRST n) (formNodes k) r
+
+-- 01: "The empty mark has no nodes"
+pub record ComesEmpty (n : ℕ) (r : Outcome) : Type 0 where
+  pub told : (w : List ℕ) → Comes (side w FIRST n) [] r
 
 -- what a comparison settles, where the first side's term ends at `end`
 unfoldable pub Settles : Mark Exp → Mark Exp → ℕ → Compared → Type 0

@@ -1,19 +1,21 @@
-// Two sides of a comparison: built one after the other, and compared.
+// Two sides of a comparison: the first is built, and the second held against it.
 use crate::Compared;
 use crate::Filled;
 use crate::Found;
 use crate::Subject;
 use instances::Side;
+use instances::second;
 use table::EMPTY;
 use table::FIRST;
 use table::OWN;
-use table::SECOND;
+use table::Outcome;
 use table::USED;
 ghost use mathlib.Core.Path.{_≡_};
-ghost use Prim.Native.Nat.{_+_, _≤_};
+ghost use Prim.Native.Nat.{_≤_};
 ghost use lib.ListN.{length};
-ghost use Rattle.table.specs.Places.{WORDS, USED, FIRST, SIDE};
-ghost use Rattle.comparing.specs.Subjects.{fills-of, Sided, Compares};
+ghost use Rattle.table.specs.Places.{WORDS, USED, FIRST};
+ghost use Rattle.table.specs.Sides.{Room};
+ghost use Rattle.comparing.specs.Subjects.{fills-of, Sided, ComesEmpty, Seconded, Compares};
 ghost use Rattle.comparing.specs.Asked.{Equals};
 
 // Where the words of a filling stand.
@@ -26,20 +28,20 @@ fn fills_of(filled: Filled) -> usize
     }
 }
 
-// One side of a comparison.
-fn one_side(book: &[u8], certificate: &[u8], w: &mut [u64], base: usize, a: Subject) -> Side
-    requires { ⌜ (FIRST ≤ base) × (base + SIDE ≤ length (now w)) ⌝ }
-    ensures { λ r. ⌜ Sided (now (book .entry)) (now (certificate .entry)) base a (now (w .entry)) (now (w .exit)) r ⌝ }
+// The first side of a comparison.
+fn first_side(book: &[u8], certificate: &[u8], w: &mut [u64], a: Subject) -> Side
+    requires { ⌜ WORDS ≤ length (now w) ⌝ }
+    ensures { λ r. ⌜ Sided (now (book .entry)) (now (certificate .entry)) a (now (w .entry)) (now (w .exit)) r ⌝ }
 {
     match a {
         Subject::Empty => Side::Done { nodes: 0, end: 0 },
-        Subject::Call(at) => instances::build(book, book, certificate, w, base, at, 1, 0, OWN),
+        Subject::Call(at) => instances::build(book, book, certificate, w, FIRST, at, 1, 0, OWN),
         Subject::Claimed { at, i, j, filled } => instances::build(
             book,
             certificate,
             certificate,
             w,
-            base,
+            FIRST,
             at,
             i,
             j,
@@ -48,21 +50,63 @@ fn one_side(book: &[u8], certificate: &[u8], w: &mut [u64], base: usize, a: Subj
     }
 }
 
-// Builds the first side, then the second, and compares them.
+// The empty mark as second side, where the first has n nodes.
+fn no_side(n: usize) -> Outcome
+    ensures { λ r. ⌜ ComesEmpty n r ⌝ }
+{
+    if n == 0 {
+        return Outcome::Same;
+    }
+    Outcome::Other
+}
+
+// The second side of a comparison, where the first has n nodes.
+fn second_side(book: &[u8], certificate: &[u8], w: &[u64], n: usize, b: Subject) -> Outcome
+    requires { ⌜ Room FIRST n (now w) ⌝ }
+    ensures { λ r. ⌜ Seconded (now (book .entry)) (now (certificate .entry)) n b (now (w .entry)) r ⌝ }
+{
+    match b {
+        Subject::Empty => no_side(n),
+        Subject::Call(at) => second::hold_instance(
+            book,
+            book,
+            certificate,
+            w,
+            FIRST,
+            n,
+            at,
+            1,
+            0,
+            OWN,
+        ),
+        Subject::Claimed { at, i, j, filled } => second::hold_instance(
+            book,
+            certificate,
+            certificate,
+            w,
+            FIRST,
+            n,
+            at,
+            i,
+            j,
+            fills_of(filled),
+        ),
+    }
+}
+
+// Builds the first side and holds the second against it.
 fn compare(book: &[u8], certificate: &[u8], w: &mut [u64], a: Subject, b: Subject) -> Compared
     requires { ⌜ WORDS ≤ length (now w) ⌝ }
     ensures { λ r. ⌜ Compares (now (book .entry)) (now (certificate .entry)) a b (now (w .entry)) (now (w .exit)) r ⌝ }
 {
-    let Side::Done { nodes: n, end } = one_side(book, certificate, w, FIRST, a) else {
+    let Side::Done { nodes: n, end } = first_side(book, certificate, w, a) else {
         return Compared::TooBig;
     };
-    let Side::Done { nodes: m, .. } = one_side(book, certificate, w, SECOND, b) else {
-        return Compared::TooBig;
-    };
-    if table::same(w, FIRST, n, SECOND, m) {
-        return Compared::Equal(end);
+    match second_side(book, certificate, w, n, b) {
+        Outcome::Same => Compared::Equal(end),
+        Outcome::Other => Compared::Unequal,
+        Outcome::Full => Compared::TooBig,
     }
-    Compared::Unequal
 }
 
 // Two sides are equal, else a number; 16 if one of them is too large.

@@ -1,22 +1,23 @@
 -- What the walk over a pattern pushes, reindexed and filled, is the normal form of the instance.
 use Prim.Native.Nat.{ℕ, _+_, _-_, _≤_, _<_, _^_}
 use mathlib.Core.Path.{_≡_, refl, sym, ap, ap₂, _∙_}
-use mathlib.Core.List.{List, [], _∷_, _++_, flatMap, append-nil}
+use mathlib.Core.List.{List, [], _∷_, _++_, reverse, flatMap, append-nil}
 use mathlib.Core.Option.{some}
 use native.Mathlib.Omega.{arith}
 use lib.ListN.{length}
 use borrow.Author.Tests.{eq-eqb, ne-eqb}
 use Rattle.patterns.specs.Term.{Filling, fill, Node, nvar, nfun, npow, nodes}
-use Rattle.patterns.specs.Edition.{reindex}
-use Rattle.patterns.specs.First.{Exp, Pattern, shift, one}
-use Rattle.patterns.specs.Push.{retag, expand}
+use Rattle.patterns.specs.Edition.{reindex, form}
+use Rattle.patterns.specs.First.{Exp, Pattern, exponents, shift, one}
+use Rattle.patterns.specs.Push.{pushes, retag, expand}
+use Rattle.patterns.proofs.Push.{push-instance}
 use Rattle.table.specs.Places.{SIDE, NODES}
 use Rattle.table.specs.Nodes.{stack, load}
 use Rattle.table.specs.Sides.{Room, Kept, Stacked, Pushes}
-use Rattle.table.specs.Marks.{Built}
+use Rattle.table.specs.Marks.{markNodes, formNodes, Built}
 use Rattle.table.specs.declared.Pushed.{Pushed}
 use Rattle.table.specs.declared.Pushed.the-variants.{Count, NoRoom}
-use Rattle.table.proofs.Marks.{built-instance}
+use Rattle.table.proofs.Marks.{built-form}
 use Rattle.instances.specs.Lying.{TermAt}
 use Rattle.instances.specs.Fillings.{entry, Entry, unlisted, listed, FillsTold}
 use Rattle.instances.specs.Instances.{Stored, FewNodes, Builds}
@@ -52,15 +53,12 @@ module _ (book cert w : List ℕ) (fills i j : ℕ) where
   term-only (Power s a b c) e = absurd (e refl)
   term-only Missing e = absurd (e refl)
 
-  module _ (base n : ℕ) (v : List ℕ) (r : Pushed) (h : Header) (word : ℕ) (e : word ≡ wordOf w fills h) where
-    abbrev Wanted : Type 0
-    Wanted = Pushes base n (flatMap (filled book cert w fills i j) (single h)) w v r
+  module _ (h : Header) (word : ℕ) (e : word ≡ wordOf w fills h) where
+    pub gives-itself : word ≡ 0 → retag (shift (i, j)) (single h) ≡ flatMap (filled book cert w fills i j) (single h)
+    gives-itself z = reindexed-only h (sym e ∙ z)
 
-    pub step-unlisted : word ≡ 0 → Pushes base n (retag (shift (i, j)) (single h)) w v r → Wanted
-    step-unlisted z t = took-as n (reindexed-only h (sym e ∙ z)) t
-
-    pub step-listed : ¬ (word ≡ 0) → Pushes base n (walked book cert (word - 1) .met) w v r → Wanted
-    step-listed z t = took-as n (ap (λ k. walked book cert (k - 1) .met) e ∙ term-only h (λ q. z (e ∙ q))) t
+    pub gives-term : ¬ (word ≡ 0) → walked book cert (word - 1) .met ≡ flatMap (filled book cert w fills i j) (single h)
+    gives-term z = ap (λ k. walked book cert (k - 1) .met) e ∙ term-only h (λ q. z (e ∙ q))
 
 -- the table of a filling that lies below a side is not changed by what is pushed there
 filled-kept : (book cert w v : List ℕ) (fills base i j : ℕ) (h : Header) → fills + 64 ≤ base → Kept base SIDE w v
@@ -102,19 +100,26 @@ module _ (book cert w : List ℕ) (fills i j : ℕ) where
     instance-nodes (nfun f ∷ ns) = ap (λ l. nfun f ∷ l) (instance-nodes ns)
     instance-nodes (npow s e ∷ ns) = ap (λ l. npow s (shift (i, j) e) ∷ l) (instance-nodes ns)
 
-  module _ (s : List ℕ) (at base : ℕ) (v : List ℕ) where
-    abbrev whole : List (Node Exp)
+  module _ (s : List ℕ) (at : ℕ) where
+    abbrev pub whole : List (Node Exp)
     whole = flatMap (filled book cert w fills i j) (walked book s at .met)
 
-    -- the side has the normal form
-    instance-built : (r : Pushed) → Pushes base 0 whole w v r → (t : Pattern) (θ : Filling Exp) → TermAt book s at t → FillsTold book cert w fills θ
-        → Built base (some (fill θ (reindex one (i, j) t))) v r
-    unfolding reindex
-    instance-built r p t θ h F =
-        built-instance base w v r (shift (i, j)) θ t
-        (took-as 0 (ap (λ (u : Passage). flatMap (filled book cert w fills i j) (u .met)) (walked-term book s at t h) ∙ instance-nodes θ F (nodes t)) p)
+    -- pushed and turned, that is the normal form
+    pub instance-form : (t : Pattern) (θ : Filling Exp) → TermAt book s at t → FillsTold book cert w fills θ
+        → reverse (pushes exponents [] whole) ≡ formNodes (some (fill θ (reindex one (i, j) t)))
+    unfolding reindex form markNodes
+    instance-form t θ h F =
+        ap (λ (u : Passage). reverse (pushes exponents [] (flatMap (filled book cert w fills i j) (u .met)))) (walked-term book s at t h)
+        ∙ ap (λ ns. reverse (pushes exponents [] ns)) (instance-nodes θ F (nodes t))
+        ∙ push-instance exponents (shift (i, j)) θ t
 
-    finished : (n e : ℕ) (ns : List (Node Exp)) → walked book s at ≡ record { met = ns; end = e } → Pushes base 0 whole w v (Count n)
+  module _ (s : List ℕ) (at base : ℕ) (v : List ℕ) where
+    -- the side has the normal form
+    instance-built : (r : Pushed) → Pushes base 0 (whole s at) w v r → (t : Pattern) (θ : Filling Exp) → TermAt book s at t → FillsTold book cert w fills θ
+        → Built base (some (fill θ (reindex one (i, j) t))) v r
+    instance-built r p t θ h F = built-form base w v r (some (fill θ (reindex one (i, j) t))) (whole s at) (instance-form s at t θ h F) p
+
+    finished : (n e : ℕ) (ns : List (Node Exp)) → walked book s at ≡ record { met = ns; end = e } → Pushes base 0 (whole s at) w v (Count n)
         → Builds book s cert base at i j fills w v (Done n e)
     unfolding Stored FewNodes Stacked
     finished n e ns q p = record {
@@ -136,7 +141,7 @@ module _ (book cert w : List ℕ) (fills i j : ℕ) where
         let light = pushing-light _ book s at base 0 w v n left p g 0 (2 ^ 38) (no-load w base) (filled-light book cert w fills i j small-i small-j s at) in
         (room, (omega arith, omega (arith, room .within, before .1)))
 
-    pub built-full : Pushes base 0 whole w v NoRoom → Builds book s cert base at i j fills w v Full
+    pub built-full : Pushes base 0 (whole s at) w v NoRoom → Builds book s cert base at i j fills w v Full
     unfolding Stored FewNodes
     built-full p = record { told = instance-built NoRoom p; few = tt; kept = p .kept }
 

@@ -7,7 +7,10 @@ pub mod Goings
 pub mod Levels
 pub mod Loads
 pub mod Entries
+pub mod Givings
+pub mod Items
 pub mod Pushings
+pub mod Comings
 pub mod Instances
 pub mod Terms
 pub mod Forgetting

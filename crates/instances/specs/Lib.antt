@@ -2,9 +2,9 @@
 pub mod Lying
 pub mod Taking
 pub mod Fillings
-pub mod Instances
 pub mod Headers
 pub mod Walks
 pub mod Filled
+pub mod Instances
 pub mod Noting
 pub mod Listings

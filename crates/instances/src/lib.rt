@@ -1,6 +1,8 @@
-// Terms that lie packed in a file: the walk over one, and the normal form of an instance built in one pass; fields and fillings there.
+// Terms that lie packed in a file: the walk over one, and the normal form of an instance built in one pass, or held against one that was; fields
+// and fillings there.
 pub mod fillings;
 mod nodes;
+pub mod second;
 
 use bits::Cursor;
 use bits::Taken;
@@ -11,9 +13,7 @@ ghost use mathlib.Core.Path.{_≡_};
 ghost use mathlib.Core.List.{flatMap};
 ghost use Prim.Native.Nat.{_+_, _≤_, _^_};
 ghost use lib.ListN.{length};
-ghost use Rattle.patterns.specs.First.{shift};
 ghost use Rattle.patterns.specs.Every.{Every};
-ghost use Rattle.patterns.specs.Push.{retag};
 ghost use Rattle.table.specs.Answer.{Says};
 ghost use Rattle.table.specs.Nodes.{stack, load};
 ghost use Rattle.table.specs.Sides.{Room, Pushes};
@@ -21,7 +21,7 @@ ghost use Rattle.table.specs.Places.{SIDE};
 ghost use Rattle.instances.specs.Taking.{Takes};
 ghost use Rattle.instances.specs.Instances.{Skips, Levels, Builds};
 ghost use Rattle.instances.specs.Walks.{single, Next, Within, Turns, walked, LevelNode};
-ghost use Rattle.instances.specs.Filled.{wordOf, filled};
+ghost use Rattle.instances.specs.Filled.{ComesAs, wordOf, filled};
 
 // A field, and the bit behind it.
 pub struct Read {
@@ -165,22 +165,24 @@ pub fn level(book: &[u8], s: &[u8], at: usize) -> bool
     }
 }
 
-// A node, reindexed by (i, j).
-fn push_node(w: &mut [u64], base: usize, n: usize, header: Header, i: u16, j: u16) -> Pushed
-    requires { ⌜ Room base n (now w) ⌝ }
-    requires { ⌜ load (stack (now w) base n) ≤ 2 ^ 62 ⌝ }
-    ensures { λ r. ⌜ Pushes base n (retag (shift (i, j)) (single header)) (now (w .entry)) (now (w .exit)) r ⌝ }
+// A node as it comes, reindexed by (i, j). A missing one comes as a power that counts nothing.
+fn item_of(header: Header, i: u16, j: u16) -> Item
+    ensures { λ r. ⌜ ComesAs i j header r ⌝ }
 {
     match header {
-        Header::Variable { variable: x, .. } => table::push(w, base, n, Item::Variable(x)),
-        Header::Symbol { symbol: f, .. } => table::push(w, base, n, Item::Symbol(f)),
+        Header::Variable { variable: x, .. } => Item::Plain(3 * (x as u64)),
+        Header::Symbol { symbol: f, .. } => Item::Plain(3 * (f as u64) + 1),
         Header::Power {
             symbol: s,
             a,
             b,
             ..
-        } => table::push(w, base, n, table::reindexed(s, a, b, i, j)),
-        Header::Missing => Pushed::Count(n),
+        } => table::reindexed(s, a, b, i, j),
+        Header::Missing => Item::Power {
+            symbol: 0,
+            a: 0,
+            b: 0,
+        },
     }
 }
 
@@ -197,7 +199,7 @@ fn spell(book: &[u8], s: &[u8], w: &mut [u64], base: usize, count: usize, at: us
         let Turn::Node { header, stand } = step(book, s, p, left) else {
             return Pushed::Count(n);
         };
-        let Pushed::Count(k) = push_node(w, base, n, header, 1, 0) else {
+        let Pushed::Count(k) = table::push(w, base, n, item_of(header, 1, 0)) else {
             return Pushed::NoRoom;
         };
         n = k;
@@ -242,7 +244,7 @@ fn push_filled(
 {
     let word = word_of(w, fills, header);
     if word == 0 {
-        return push_node(w, base, n, header, i, j);
+        return table::push(w, base, n, item_of(header, i, j));
     }
     spell(book, certificate, w, base, n, (word - 1) as usize)
 }

@@ -15,7 +15,7 @@ use Rattle.covering.specs.Walk.{State, on-at, meet, step, walk}
 use Rattle.covering.proofs.Matching.{bind-some}
 use Rattle.table.specs.Places.{WORDS, NODES, BOUND, OFF}
 use Rattle.table.proofs.Writes.{kept-self}
-use Rattle.table.proofs.Comparing.{says-true, says-false}
+use Rattle.table.proofs.Answer.{says-true, says-false}
 use Rattle.instances.specs.Fillings.{entry}
 use Rattle.instances.specs.Walks.{single, Named}
 use Rattle.bits.specs.declared.Cursor.{Cursor}

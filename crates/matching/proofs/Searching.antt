@@ -21,7 +21,7 @@ use Rattle.table.specs.Nodes.{side}
 use Rattle.table.specs.Sides.{Kept}
 use Rattle.table.specs.Marks.{Built, markNodes}
 use Rattle.table.proofs.Writes.{kept-self, kept-then}
-use Rattle.table.proofs.Comparing.{says-true, says-false}
+use Rattle.table.proofs.Answer.{says-true, says-false}
 use Rattle.instances.specs.Lying.{arities, TermAt, behind}
 use Rattle.instances.specs.Fillings.{unlisted, FillsTold}
 use Rattle.instances.specs.Instances.{Levels, Stored, Builds}

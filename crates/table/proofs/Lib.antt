@@ -5,6 +5,8 @@ pub mod Loads
 pub mod Pushing
 pub mod Sides
 pub mod Reindexing
-pub mod Comparing
+pub mod Answer
+pub mod Parting
+pub mod Holding
 pub mod Marks
 pub mod Zeros

@@ -1,31 +1,28 @@
--- A side that took a term's nodes holds its normal form, and the comparison of two sides settles whether their marks are the same.
+-- A side that took a term's nodes holds its normal form, and what a second side comes to beside it settles whether their marks are the same.
 use Prim.Native.Nat.{ℕ}
 use mathlib.Core.Path.{_≡_, refl, sym, ap, _∙_}
-use mathlib.Core.Bool.{Bool, true, false}
 use mathlib.Core.List.{List, [], reverse}
 use mathlib.Core.Option.{none, some}
 use native.Mathlib.Omega.{arith}
 use lib.ListN.{length, length-reverse}
-use Rattle.patterns.specs.Term.{Term, var, fun, pow, Filling, fill, exps, Node, nodes}
+use Rattle.patterns.specs.Term.{var, fun, pow, Node, nodes}
 use Rattle.patterns.specs.Edition.{form}
 use Rattle.patterns.specs.Formed.{Formed}
 use Rattle.patterns.specs.Certificate.{Mark}
 use Rattle.patterns.specs.Checks.{OnMark, SameMark}
 use Rattle.patterns.specs.Demand.{small, same, weight, Met}
 use Rattle.patterns.specs.First.{Exp, Pattern, exponents, one}
-use Rattle.patterns.specs.Push.{pushes, retag, expand}
+use Rattle.patterns.specs.Push.{pushes}
 use Rattle.patterns.proofs.Term.{length-nodes}
-use Rattle.patterns.proofs.Push.{push-instance}
 use Rattle.patterns.proofs.Formed.{nodes-inj, formed-norm}
-use Rattle.table.specs.Places.{SIDE}
 use Rattle.table.specs.Nodes.{stack, side}
-use Rattle.table.specs.Sides.{Kept, Stacked, Pushes}
+use Rattle.table.specs.Sides.{Stacked, Pushes}
 use Rattle.table.specs.Marks.{markNodes, formNodes, Built}
-use Rattle.table.specs.Answer.{Says}
+use Rattle.table.specs.Second.{Comes}
 use Rattle.table.specs.declared.Pushed.{Pushed}
 use Rattle.table.specs.declared.Pushed.the-variants.{Count, NoRoom}
-use Rattle.table.proofs.Nodes.{stack-length}
-use Rattle.table.proofs.Sides.{Apart, stack-apart}
+use Rattle.table.specs.declared.Outcome.the-variants.{Same, Other, Full}
+use Rattle.table.proofs.Nodes.{side-length}
 
 -- ---- what is built
 
@@ -38,20 +35,11 @@ unfolding Stacked Built side
 turned base ns m v (Count k) e h = (h .0, ap reverse (h .1) ∙ e)
 turned base ns m v NoRoom e h = omega (arith, length-reverse ns, ap length e)
 
-module _ (base : ℕ) (w v : List ℕ) (r : Pushed) where
-  -- straight from the nodes of a pattern and a filling
-  pub built-instance : {E : Type 0} (h : E → Exp) (θ : Filling Exp) (t : Term E) → Pushes base 0 (expand θ (retag h (nodes t))) w v r
-      → Built base (some (fill θ (exps h t))) v r
-  unfolding stack form markNodes
-  built-instance h θ t p =
-      turned base (pushes exponents [] (expand θ (retag h (nodes t)))) (some (fill θ (exps h t))) v r (push-instance exponents h θ t) (p .holds)
-
--- the other side leaves it as it is
-pub built-apart : (base other : ℕ) (m : Mark Exp) (w v : List ℕ) (r : Pushed) → Apart base SIDE other SIDE → Kept other SIDE w v
-    → Built base m w r → Built base m v r
-unfolding Built side
-built-apart base other m w v (Count k) a c b = (b .0, ap reverse (stack-apart k (b .0) a c) ∙ b .1)
-built-apart base other m w v NoRoom a c b = b
+-- nodes that give a normal form, pushed on an empty side
+pub built-form : (base : ℕ) (w v : List ℕ) (r : Pushed) (m : Mark Exp) (ms : List (Node Exp)) → reverse (pushes exponents [] ms) ≡ formNodes m
+    → Pushes base 0 ms w v r → Built base m v r
+unfolding stack
+built-form base w v r m ms e p = turned base (pushes exponents [] ms) m v r e (p .holds)
 
 -- ---- what it settles
 
@@ -59,10 +47,6 @@ form-length : (m : Mark Exp) → length (formNodes m) ≡ weight one m
 unfolding markNodes weight
 form-length none = refl
 form-length (some t) = length-nodes (form one t)
-
-side-length : (w : List ℕ) (base n : ℕ) → length (side w base n) ≡ n
-unfolding side
-side-length w base n = length-reverse (stack w base n) ∙ stack-length w base n
 
 -- 01: "A side whose normal form has more than 1,024 nodes is refused with 16"
 pub built-small : (base k : ℕ) (m : Mark Exp) (v : List ℕ) → Built base m v (Count k) → Met one (small m)
@@ -92,9 +76,25 @@ module _ (ar : ℕ → ℕ) where
   marks-same (some t) (some u) p q e =
       ap some (nodes-inj ar (form one t) (form one u) (formed-norm ar exponents t p) (formed-norm ar exponents u q) e)
 
-  -- two sides that stand in the table are equal exactly if their marks are the same
-  pub sides-settle : (a n b j : ℕ) (m k : Mark Exp) (w : List ℕ) (r : Bool) → OnMark (Formed ar) m → OnMark (Formed ar) k
-      → Built a m w (Count n) → Built b k w (Count j) → Says (side w a n ≡ side w b j) r → Says (Met one (same m k)) r
-  unfolding Says Met Built
-  sides-settle a n b j m k w true p q x y e = marks-same m k p q (sym (x .1) ∙ e ∙ y .1)
-  sides-settle a n b j m k w false p q x y h = λ e. h (x .1 ∙ nodes-same m k e ∙ sym (y .1))
+  -- a second side of the nodes of k beside the stored ones of m settles whether they are the same
+  module _ (base n : ℕ) (m k : Mark Exp) (w : List ℕ) (p : OnMark (Formed ar) m) (q : OnMark (Formed ar) k) (x : Built base m w (Count n)) where
+    pub comes-same : Comes (side w base n) (formNodes k) Same → Met one (small k) × Met one (same m k)
+    unfolding Comes Met Built
+    comes-same c = (omega (arith, form-length k, c .0), marks-same m k p q (sym (x .1) ∙ c .1))
+
+    pub comes-other : Comes (side w base n) (formNodes k) Other → Met one (small k) × (¬ (Met one (same m k)))
+    unfolding Comes Met Built
+    comes-other c = (omega (arith, form-length k, c .0), λ e. c .1 (x .1 ∙ nodes-same m k e))
+
+pub comes-full : (stored : List (Node Exp)) (k : Mark Exp) → Comes stored (formNodes k) Full → ¬ (Met one (small k))
+unfolding Comes Met
+comes-full stored k c s = omega (arith, form-length k, c)
+
+-- the empty mark beside n stored nodes
+pub comes-none : (w : List ℕ) (base n : ℕ) → n ≡ 0 → Comes (side w base n) [] Same
+unfolding Comes side stack
+comes-none w base n e = (omega arith, ap (side w base) e)
+
+pub comes-some : (w : List ℕ) (base n : ℕ) → ¬ (n ≡ 0) → Comes (side w base n) [] Other
+unfolding Comes
+comes-some w base n d = (omega arith, λ e. d (sym (side-length w base n) ∙ ap length e))

@@ -1,15 +1,15 @@
 -- Which node three words tell, and when two times three words tell the same.
 use Prim.Native.Nat.{ℕ, zero, suc, _+_, _*_, _/_, _%_, _<_, _≤_}
-use mathlib.Core.Path.{_≡_, refl, sym, ap, ap₂, subst}
+use mathlib.Core.Path.{_≡_, refl, sym, ap, ap₂, subst, _∙_}
 use mathlib.Core.Logic.{_≢_}
 use mathlib.Core.List.{List, _∷_}
 use native.Mathlib.Decide.{ℕ-discrete}
 use native.Mathlib.Omega.{arith}
-use lib.ListN.{length, getD}
+use lib.ListN.{length, getD, length-reverse}
 use borrow.Author.Tests.{eq-eqb, ne-eqb}
 use Rattle.patterns.specs.Term.{Node, nvar, nfun, npow}
 use Rattle.patterns.specs.First.{Exp}
-use Rattle.table.specs.Nodes.{nodeOf, nodeAt, stack}
+use Rattle.table.specs.Nodes.{nodeOf, nodeAt, stack, side}
 
 -- what a node's words say
 pub data TellsNode (c a b : ℕ) : Node Exp → Type 0 where
@@ -69,6 +69,10 @@ pub stack-length : (w : List ℕ) (base n : ℕ) → length (stack w base n) ≡
 unfolding stack
 stack-length w base zero = refl
 stack-length w base (suc n) = ap suc (stack-length w base n)
+
+pub side-length : (w : List ℕ) (base n : ℕ) → length (side w base n) ≡ n
+unfolding side
+side-length w base n = length-reverse (stack w base n) ∙ stack-length w base n
 
 pub node-kept : (w v : List ℕ) (p : ℕ) → ((k : ℕ) → p ≤ k → k < p + 3 → getD v k 0 ≡ getD w k 0) → nodeAt v p ≡ nodeAt w p
 unfolding nodeAt

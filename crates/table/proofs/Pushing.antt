@@ -1,5 +1,5 @@
 -- What the code stores is what the push of the theory gives.
-use Prim.Native.Nat.{ℕ, zero, suc, _+_, _*_, _-_, _≤_, _<_}
+use Prim.Native.Nat.{ℕ, zero, suc, _+_, _*_, _-_, _%_, _≤_, _<_}
 use mathlib.Core.Path.{_≡_, refl, sym, ap, subst, _∙_}
 use mathlib.Core.Logic.{if-pos, if-neg}
 use mathlib.Core.List.{List, [], _∷_}
@@ -13,12 +13,12 @@ use Rattle.patterns.specs.Counters.{pair-path, more, alone}
 use Rattle.patterns.specs.Push.{put, push, pushes}
 use Rattle.table.specs.Places.{SIDE, NODES}
 use Rattle.table.specs.Nodes.{nodeOf, nodeAt, withNode, stack, topCode, load}
-use Rattle.table.specs.Sides.{node-told, Room, Stacked, Became, Pushes}
+use Rattle.table.specs.Sides.{node-told, Coded, Room, Stacked, Became, Pushes}
 use Rattle.table.specs.declared.Item.{Item}
-use Rattle.table.specs.declared.Item.the-variants.{Variable, Symbol, Power}
+use Rattle.table.specs.declared.Item.the-variants.{Plain, Power}
 use Rattle.table.specs.declared.Pushed.{Pushed}
 use Rattle.table.specs.declared.Pushed.the-variants.{Count, NoRoom}
-use Rattle.table.proofs.Nodes.{TellsNode, is-var, is-fun, is-pow, tells, var-told, fun-told, pow-told, stack-length}
+use Rattle.table.proofs.Nodes.{TellsNode, is-var, is-fun, is-pow, tells, pow-told, stack-length}
 use Rattle.table.proofs.Writes.{kept-self, with-stack, with-kept}
 
 pub became-as : {base : ℕ} {ns ms : List (Node Exp)} {w v : List ℕ} {r : Pushed} → ns ≡ ms → Became base ns w v r → Became base ms w v r
@@ -61,11 +61,11 @@ top-some w base (suc n) s k = omega arith
 
 -- ---- a power
 
-push-none : (ns : List (Node Exp)) (s a b : ℕ) → a + b ≡ 0 → push exponents ns (npow s (a, b)) ≡ ns
+pub push-none : (ns : List (Node Exp)) (s a b : ℕ) → a + b ≡ 0 → push exponents ns (npow s (a, b)) ≡ ns
 unfolding push exponents more alone
 push-none ns s a b h = if-pos (exponents .none? (a, b)) (pair-path (omega arith) (omega arith)) _ _
 
-push-some : (ns : List (Node Exp)) (s a b : ℕ) → (a + b ≡ 0 → ⊥) → push exponents ns (npow s (a, b)) ≡ put exponents s (a, b) ns
+pub push-some : (ns : List (Node Exp)) (s a b : ℕ) → (a + b ≡ 0 → ⊥) → push exponents ns (npow s (a, b)) ≡ put exponents s (a, b) ns
 unfolding push exponents more alone
 push-some ns s a b h =
     if-neg (exponents .none? (a, b))
@@ -74,14 +74,14 @@ push-some ns s a b h =
     let q : b ≡ 0 = ap (λ (e : Exp). e .1) z in
     h (omega arith)) _ _
 
-put-other : {c x y : ℕ} {m : Node Exp} (s : ℕ) (e : Exp) (ns : List (Node Exp)) → TellsNode c x y m → (c ≡ 3 * s + 2 → ⊥)
+pub put-other : {c x y : ℕ} {m : Node Exp} (s : ℕ) (e : Exp) (ns : List (Node Exp)) → TellsNode c x y m → (c ≡ 3 * s + 2 → ⊥)
     → put exponents s e (m ∷ ns) ≡ npow s e ∷ m ∷ ns
 unfolding put
 put-other s e ns (is-var x p) h = refl
 put-other s e ns (is-fun f p) h = refl
 put-other s e ns (is-pow r p) h = if-neg (ℕ-discrete r s) (λ z. h (omega arith)) _ _
 
-put-like : {c x y : ℕ} {m : Node Exp} (s a b : ℕ) (ns : List (Node Exp)) → TellsNode c x y m → c ≡ 3 * s + 2
+pub put-like : {c x y : ℕ} {m : Node Exp} (s a b : ℕ) (ns : List (Node Exp)) → TellsNode c x y m → c ≡ 3 * s + 2
     → put exponents s (a, b) (m ∷ ns) ≡ npow s (x + a, y + b) ∷ ns
 unfolding put exponents more alone
 put-like s a b ns (is-var x p) h = absurd (omega arith)
@@ -131,16 +131,25 @@ push-added w v base (suc n) s a b room h k e =
       kept = with-kept w base n _ _ _ (omega (arith, room .few));
     })
 
+-- ---- a variable or a symbol
+
+pub plain-pushed : {c x y : ℕ} {m : Node Exp} (ns : List (Node Exp)) → TellsNode c x y m → ¬ (c % 3 ≡ 2) → push exponents ns m ≡ m ∷ ns
+unfolding push
+plain-pushed ns (is-var x p) h = refl
+plain-pushed ns (is-fun f p) h = refl
+plain-pushed ns (is-pow s p) h = absurd (h (omega arith))
+
+-- a power that comes next is a node of its own
+pub plain-rests : {c x y : ℕ} {m : Node Exp} (ns : List (Node Exp)) → TellsNode c x y m → ¬ (c % 3 ≡ 2) → (s : ℕ) (e : Exp)
+    → put exponents s e (m ∷ ns) ≡ npow s e ∷ m ∷ ns
+plain-rests ns t h s e = put-other s e ns t (λ z. h (omega arith))
+
 -- ---- any node
 
 module _ (w v : List ℕ) (base n : ℕ) (r : Pushed) (m : Item) where
-  pub push-variable : (x : ℕ) → m ≡ Variable x → Became base (nodeOf (3 * x) 0 0 ∷ stack w base n) w v r → Pushes base n (node-told m ∷ []) w v r
-  unfolding node-told push pushes
-  push-variable x e g = rw e (became-as (ap (λ t. t ∷ stack w base n) (var-told x 0 0)) g)
-
-  pub push-symbol : (f : ℕ) → m ≡ Symbol f → Became base (nodeOf (3 * f + 1) 0 0 ∷ stack w base n) w v r → Pushes base n (node-told m ∷ []) w v r
-  unfolding node-told push pushes
-  push-symbol f e g = rw e (became-as (ap (λ t. t ∷ stack w base n) (fun-told f 0 0)) g)
+  pub push-plain : (code : ℕ) → m ≡ Plain code → Coded m → Became base (nodeOf code 0 0 ∷ stack w base n) w v r → Pushes base n (node-told m ∷ []) w v r
+  unfolding node-told Coded pushes
+  push-plain code e h g = let k : ¬ (code % 3 ≡ 2) = rw e at h in rw e (became-as (sym (plain-pushed (stack w base n) (tells code 0 0) k)) g)
 
   pub push-raised : (s a b : ℕ) → m ≡ Power s a b → Pushes base n (npow s (a, b) ∷ []) w v r → Pushes base n (node-told m ∷ []) w v r
   unfolding node-told

@@ -1,9 +1,9 @@
 -- Pushes compose, what lies elsewhere in the table stays, and no second answer fits.
-use Prim.Native.Nat.{ℕ, _+_, _≤_, _<_}
+use Prim.Native.Nat.{ℕ, _+_, _≤_}
 use mathlib.Core.Path.{_≡_, refl, sym, ap, _∙_}
 use mathlib.Core.List.{List, [], _++_}
 use native.Mathlib.Omega.{arith}
-use lib.ListN.{length, getD}
+use lib.ListN.{length}
 use Rattle.patterns.specs.Term.{Node}
 use Rattle.patterns.specs.First.{Exp, exponents}
 use Rattle.patterns.specs.Push.{pushes}
@@ -13,7 +13,7 @@ use Rattle.table.specs.Nodes.{stack, load}
 use Rattle.table.specs.Sides.{Room, Kept, Stacked, Pushes}
 use Rattle.table.specs.declared.Pushed.{Pushed}
 use Rattle.table.specs.declared.Pushed.the-variants.{Count, NoRoom}
-use Rattle.table.proofs.Nodes.{stack-length, stack-kept}
+use Rattle.table.proofs.Nodes.{stack-length}
 use Rattle.table.proofs.Writes.{kept-self, kept-then}
 use Rattle.table.proofs.Loads.{load-pushes}
 use Rattle.table.proofs.Pushing.{became-as}
@@ -51,12 +51,7 @@ pub took-load : (base n k : ℕ) (ms : List (Node Exp)) (w v : List ℕ) → Pus
 unfolding Stacked
 took-load base n k ms w v p = ap load (p .holds .1) ∙ load-pushes (stack w base n) ms
 
--- ---- what lies elsewhere stays
-
--- two parts of the table share no word
-pub data Apart (base room other more : ℕ) : Type 0 where
-  before : base + room ≤ other → Apart base room other more
-  behind : other + more ≤ base → Apart base room other more
+-- ---- a wider part of the table
 
 pub kept-wider : {base room other more : ℕ} {w v : List ℕ} → other ≤ base → base + room ≤ other + more → Kept base room w v → Kept other more w v
 kept-wider p q c = record {
@@ -64,14 +59,6 @@ kept-wider p q c = record {
   low = λ k h. c .low k (omega arith);
   high = λ k h. c .high k (omega arith);
 }
-
-pub kept-apart : {base room other more : ℕ} {w v : List ℕ} → Apart base room other more → Kept other more w v → (k : ℕ) → base ≤ k → k < base + room
-    → getD v k 0 ≡ getD w k 0
-kept-apart (before a) c k p q = c .low k (omega arith)
-kept-apart (behind a) c k p q = c .high k (omega arith)
-
-pub stack-apart : {base other more : ℕ} {w v : List ℕ} (n : ℕ) → n ≤ NODES → Apart base SIDE other more → Kept other more w v → stack v base n ≡ stack w base n
-stack-apart {base} {other} {more} {w} {v} n few a c = stack-kept w v base n (λ k p q. kept-apart a c k p (omega arith))
 
 -- ---- one answer
 

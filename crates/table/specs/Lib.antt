@@ -1,6 +1,7 @@
--- What the words of the work table tell, what a push does to a side, and what the comparison answers.
+-- What the words of the work table tell, what a push does to a side, and what a second side comes to beside it.
 pub mod Places
 pub mod Nodes
 pub mod Sides
 pub mod Marks
 pub mod Answer
+pub mod Second

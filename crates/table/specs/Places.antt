@@ -1,5 +1,5 @@
--- The places of the work table. The three lists of begins, the words of three fillings and the two sides lie in this order, so that what lives
--- longest lies lowest. A search for an index has the nodes of its call in the first side's place, and its own words in the second's.
+-- The places of the work table. The three lists of begins, the words of three fillings and a comparison's first side lie in this order, so that
+-- what lives longest lies lowest. A search for an index has the nodes of its call in the side's place, and its own words behind it.
 use Prim.Native.Nat.{ℕ}
 
 -- 01: "the work table has fewer than 8,192 64-bit numbers"
@@ -30,12 +30,9 @@ OWN = 832
 abbrev pub USED : ℕ
 USED = 896
 
--- the two sides of a comparison
+-- the first side of a comparison; the second has no place
 abbrev pub FIRST : ℕ
 FIRST = 1024
-
-abbrev pub SECOND : ℕ
-SECOND = 4096
 
 -- the words of a side, three for each of its nodes
 abbrev pub SIDE : ℕ

@@ -1,28 +1,33 @@
 -- A side of the table, 3,072 words for at most 1,024 nodes, and what pushing does to it.
-use Prim.Native.Nat.{ℕ, _+_, _≤_, _<_, _^_}
+use Prim.Native.Nat.{ℕ, _+_, _%_, _≤_, _<_, _^_}
 use mathlib.Core.Path.{_≡_}
 use mathlib.Core.List.{List, [], _∷_}
 use lib.ListN.{length, getD}
-use Rattle.patterns.specs.Term.{Node, nvar, nfun, npow}
+use Rattle.patterns.specs.Term.{Node, npow}
 use Rattle.patterns.specs.First.{Exp, exponents, shift}
 use Rattle.patterns.specs.Push.{pushes}
 use Rattle.table.specs.Places.{SIDE, NODES}
-use Rattle.table.specs.Nodes.{stack, load}
+use Rattle.table.specs.Nodes.{nodeOf, stack, load}
 use Rattle.table.specs.declared.Item.{Item}
-use Rattle.table.specs.declared.Item.the-variants.{Variable, Symbol, Power}
+use Rattle.table.specs.declared.Item.the-variants.{Plain, Power}
 use Rattle.table.specs.declared.Pushed.{Pushed}
 use Rattle.table.specs.declared.Pushed.the-variants.{Count, NoRoom}
 
 -- the node that the code hands over
 unfoldable pub node-told : Item → Node Exp
-node-told (Variable x) = nvar x
-node-told (Symbol f) = nfun f
+node-told (Plain code) = nodeOf code 0 0
 node-told (Power s a b) = npow s (a, b)
+
+-- the word of a variable or a symbol is not one that tells a power
+unfoldable pub Coded : Item → Type 0
+Coded (Plain code) = ¬ (code % 3 ≡ 2)
+Coded (Power s a b) = Unit {0}
 
 -- a power of s reindexed by (i, j), with numbers far below what a word holds
 pub record Reindexed (s a b i j : ℕ) (r : Item) : Type 0 where
   pub node : node-told r ≡ npow s (shift (i, j) (a, b))
   pub light : load (node-told r ∷ []) < 2 ^ 34
+  pub coded : Coded r
 
 -- the side at `base` lies within the table, and n nodes are no more than it can hold
 pub record Room (base n : ℕ) (w : List ℕ) : Type 0 where

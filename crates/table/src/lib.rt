@@ -1,15 +1,16 @@
-// The judge's work table: a normal form built node by node in a side of 3,072 words, two sides compared, the table cleared.
+// The judge's work table: the normal form of a comparison's first side, built node by node in 3,072 words; the second held against it; the table cleared.
+pub mod second;
+
 ghost use mathlib.Core.Path.{_≡_};
 ghost use mathlib.Core.List.{[], _∷_};
 ghost use Prim.Native.Nat.{_+_, _*_, _<_, _≤_, _^_};
 ghost use lib.ListN.{length, replicate};
 ghost use Rattle.patterns.specs.Term.{npow};
-ghost use Rattle.table.specs.Nodes.{nodeOf, nodeAt, withNode, stack, side, load, topCode};
-ghost use Rattle.table.specs.Sides.{node-told, Reindexed, Room, Became, Pushes};
-ghost use Rattle.table.specs.Answer.{Says};
+ghost use Rattle.table.specs.Nodes.{nodeOf, withNode, stack, load, topCode};
+ghost use Rattle.table.specs.Sides.{node-told, Coded, Reindexed, Room, Became, Pushes};
 
 // The places of the table: where each rule begins, where each line's left begins, and where its right does; the words of a filling that
-// stays empty, of the line's own filling, of a use's; and the two sides of a comparison.
+// stays empty, of the line's own filling, of a use's; and the first side of a comparison. The second side has no place.
 pub const RULES: usize = 0;
 
 pub const LEFTS: usize = 256;
@@ -24,9 +25,7 @@ pub const USED: usize = 896;
 
 pub const FIRST: usize = 1024;
 
-pub const SECOND: usize = 4096;
-
-// A search for an index has the nodes of its call at FIRST, and from SECOND on: where the term of each node ends; for each variable of a
+// A search for an index has the nodes of its call at FIRST, and behind them: where the term of each node ends; for each variable of a
 // pattern the call's node where its term begins, and how much of that node is used up.
 pub const ENDS: usize = 4096;
 
@@ -39,10 +38,9 @@ pub const WORDS: usize = 8192;
 
 pub const NODES: usize = 1024;
 
-// A node to be pushed: a variable, a symbol with arguments, or a power of a symbol with its numbers a and b.
+// A node that comes: a variable or a symbol with arguments, by the word that tells it; or a power of a symbol with its numbers a and b.
 pub enum Item {
-    Variable(u16),
-    Symbol(u16),
+    Plain(u64),
     Power { symbol: u16, a: u64, b: u64 },
 }
 
@@ -50,6 +48,23 @@ pub enum Item {
 pub enum Pushed {
     Count(usize),
     NoRoom,
+}
+
+// How far a second side has come: how many nodes are settled; the number of the first of them that differs from the stored node of the same
+// number, or how many are stored; and the words of the power that waits, the first of them 0 where none does.
+pub struct Held {
+    pub nodes: usize,
+    pub parts: usize,
+    pub code: u64,
+    pub a: u64,
+    pub b: u64,
+}
+
+// What a second side comes to: the nodes that are stored, others, or more than 1,024.
+pub enum Outcome {
+    Same,
+    Other,
+    Full,
 }
 
 // A product of two small numbers.
@@ -126,51 +141,13 @@ fn push_power(w: &mut [u64], base: usize, n: usize, s: u16, a: u64, b: u64) -> P
 // A node pushed on a side that holds n.
 pub fn push(w: &mut [u64], base: usize, n: usize, node: Item) -> Pushed
     requires { ⌜ Room base n (now w) ⌝ }
-    requires { ⌜ load (node-told node ∷ stack (now w) base n) < 2 ^ 64 ⌝ }
+    requires { ⌜ (load (node-told node ∷ stack (now w) base n) < 2 ^ 64) × Coded node ⌝ }
     ensures { λ r. ⌜ Pushes base n (node-told node ∷ []) (now (w .entry)) (now (w .exit)) r ⌝ }
 {
     match node {
-        Item::Variable(x) => store(w, base, n, 3 * (x as u64), 0, 0),
-        Item::Symbol(f) => store(w, base, n, 3 * (f as u64) + 1, 0, 0),
+        Item::Plain(code) => store(w, base, n, code, 0, 0),
         Item::Power { symbol: s, a, b } => push_power(w, base, n, s, a, b),
     }
-}
-
-// Whether the nodes that begin at two places are equal.
-fn alike(w: &[u64], p: usize, q: usize) -> bool
-    requires { ⌜ (p + 3 ≤ length (now w)) × (q + 3 ≤ length (now w)) ⌝ }
-    ensures { λ r. ⌜ Says (nodeAt (now (w .entry)) p ≡ nodeAt (now (w .entry)) q) r ⌝ }
-{
-    if w[p] != w[q] {
-        return false;
-    }
-    if w[p] % 3 != 2 {
-        return true;
-    }
-    if w[p + 1] != w[q + 1] {
-        return false;
-    }
-    w[p + 2] == w[q + 2]
-}
-
-// Whether the n nodes of the side at `a` are the m nodes of the side at `b`.
-pub fn same(w: &[u64], a: usize, n: usize, b: usize, m: usize) -> bool
-    requires { ⌜ Room a n (now w) × Room b m (now w) ⌝ }
-    ensures { λ r. ⌜ Says (side (now (w .entry)) a n ≡ side (now (w .entry)) b m) r ⌝ }
-{
-    if n != m {
-        return false;
-    }
-    let mut k = 0;
-    let mut left = n;
-    while left > 0 {
-        if !alike(w, a + 3 * k, b + 3 * k) {
-            return false;
-        }
-        k += 1;
-        left -= 1;
-    }
-    true
 }
 
 // Every word 0.

@@ -1,7 +1,7 @@
 -- `covers::covers` meets its contract: refusal 1, or the answer for all three files with the table cleared.
 use Rattle.answers.specs.Numbers.{w-of, paper-coverage}
 use Rattle.judging.proofs.Inputs.{not-less, left-short, left-cleared}
-use Rattle.table.proofs.Comparing.{says-true, says-false}
+use Rattle.table.proofs.Answer.{says-true, says-false}
 use Rattle.covers.proofs.Stages.{short-asked, files-asked}
 use lib.ListN.{replicate}
 use mathlib.Core.Path.{ap, _∙_}

@@ -1,9 +1,9 @@
 -- `instances::spell` meets its contract. The loop's invariant: the nodes met so far were pushed.
 use borrow.Author.Needs.{needs}
+use native.Mathlib.Omega.{arith}
 use Rattle.instances.specs.Filled.{itself}
 use Rattle.instances.proofs.Goings.{going-left}
-use Rattle.instances.proofs.Pushings.{Pushing, pushing-start, pushing-over, pushing-full, pushing-on, spelling-fits, step-plain, spelled}
-use native.Mathlib.Omega.{arith}
+use Rattle.instances.proofs.Pushings.{Pushing, pushing-start, pushing-over, pushing-full, pushing-on, spelling-fits, took-plain, spelled}
 use Rattle.instances.proofs.spell.Statement.{statement}
 use Rattle.instances.proofs.spell.Tie as tie
 
@@ -22,20 +22,20 @@ step-requires c κs = c .loop .inv .few
 returns : tie.Need-returns Inv-loop μ-loop
 returns c = spelled _ _ _ _ (pushing-over _ _ _ _ _ _ _ _ _ _ _ (c .before .before .before .loop .inv) (c .before .before .step .ensures) (c .enum-told .given .1))
 
-push-node-requires : tie.Need-push-node-requires Inv-loop μ-loop
-push-node-requires c κs = spelling-fits _ _ _ _ _ _ _ _ _ _ (c .before .before .before .before .before .loop .inv) (c .before .before .before .before .before .before .before .before .before .pre)
+push-requires : tie.Need-push-requires Inv-loop μ-loop
+push-requires c κs = spelling-fits _ _ _ _ _ _ _ _ _ _ (c .before .before .before .before .before .before .loop .inv) (c .before .before .before .before .before .before .before .before .before .before .pre) (c .item-of .ensures)
 
 returns-2 : tie.Need-returns-2 Inv-loop μ-loop
-returns-2 c = spelled _ _ _ _ (pushing-full _ _ _ _ _ _ _ _ _ _ _ (c .before .before .before .before .before .before .before .before .before .before .loop .inv) (c .before .before .before .before .before .before .before .before .before .step .ensures) (c .before .before .before .before .before .before .before .header .given .1) (step-plain _ _ (c .before .before .before .before .push-node .ensures)) (c .enum-told2 .given .1))
+returns-2 c = spelled _ _ _ _ (pushing-full _ _ _ _ _ _ _ _ _ _ _ (c .before .before .before .before .before .before .before .before .before .before .before .loop .inv) (c .before .before .before .before .before .before .before .before .before .before .step .ensures) (c .before .before .before .before .before .before .before .before .header .given .1) (took-plain _ (c .before .before .before .before .before .item-of .ensures) (c .before .before .before .before .push .ensures)) (c .enum-told2 .given .1))
 
 sub-left : tie.Need-sub-left Inv-loop μ-loop
-sub-left c = going-left (c .before .before .before .before .before .before .before .before .before .before .before .loop .inv) (c .before .before .before .before .before .before .before .before .before .before .step .ensures) (c .before .before .before .before .before .before .before .before .header .given .1)
+sub-left c = going-left (c .before .before .before .before .before .before .before .before .before .before .before .before .loop .inv) (c .before .before .before .before .before .before .before .before .before .before .before .step .ensures) (c .before .before .before .before .before .before .before .before .before .header .given .1)
 
 loop-less : tie.Need-loop-less Inv-loop μ-loop
-loop-less c = omega (arith, going-left (c .before .before .before .before .before .before .before .before .before .before .before .loop .inv) (c .before .before .before .before .before .before .before .before .before .before .step .ensures) (c .before .before .before .before .before .before .before .before .header .given .1))
+loop-less c = omega (arith, going-left (c .before .before .before .before .before .before .before .before .before .before .before .before .loop .inv) (c .before .before .before .before .before .before .before .before .before .before .before .step .ensures) (c .before .before .before .before .before .before .before .before .before .header .given .1))
 
 loop-again : tie.Need-loop-again Inv-loop μ-loop
-loop-again c = pushing-on _ _ _ _ _ _ _ _ _ _ _ (c .before .before .before .before .before .before .before .before .before .before .before .loop .inv) (c .before .before .before .before .before .before .before .before .before .before .step .ensures) (c .before .before .before .before .before .before .before .before .header .given .1) (step-plain _ _ (c .before .before .before .before .before .push-node .ensures)) (c .before .k .given .1)
+loop-again c = pushing-on _ _ _ _ _ _ _ _ _ _ _ (c .before .before .before .before .before .before .before .before .before .before .before .before .loop .inv) (c .before .before .before .before .before .before .before .before .before .before .before .step .ensures) (c .before .before .before .before .before .before .before .before .before .header .given .1) (took-plain _ (c .before .before .before .before .before .before .item-of .ensures) (c .before .before .before .before .before .push .ensures)) (c .before .k .given .1)
 
 pub spell-spec : {M : Type 1} → statement M
 spell-spec =
@@ -46,7 +46,8 @@ spell-spec =
     step-requires
     (λ c. search needs) (λ c. search needs) (λ c. search needs)
     returns
-    push-node-requires
+    (λ c κs. search needs)
+    push-requires
     (λ c. search needs) (λ c. search needs) (λ c. search needs)
     returns-2
     sub-left

@@ -1,7 +1,7 @@
 -- `judging::judge` meets its contract: refusal 1, or the verdict on both files with the table cleared.
 use Rattle.answers.specs.Numbers.{paper-verdict}
 use Rattle.judging.proofs.Inputs.{not-less, left-short, left-cleared}
-use Rattle.table.proofs.Comparing.{says-true, says-false}
+use Rattle.table.proofs.Answer.{says-true, says-false}
 use Rattle.verdicts.proofs.Layers.{table-short, table-enough}
 use lib.ListN.{replicate}
 use mathlib.Core.Path.{sym, ap, _∙_}

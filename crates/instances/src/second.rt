@@ -1,0 +1,101 @@
+// The second side of a comparison: an instance of a packed term, walked against the nodes of the first.
+use crate::Header;
+use crate::Stand;
+use crate::Turn;
+use crate::item_of;
+use crate::step;
+use crate::word_of;
+use table::Held;
+use table::NODES;
+use table::Outcome;
+ghost use Prim.Native.Nat.{_+_, _≤_, _^_};
+ghost use mathlib.Core.List.{flatMap};
+ghost use lib.ListN.{length};
+ghost use Rattle.table.specs.Places.{NODES};
+ghost use Rattle.table.specs.Sides.{Room};
+ghost use Rattle.table.specs.Second.{Came};
+ghost use Rattle.instances.specs.Instances.{Against};
+ghost use Rattle.instances.specs.Walks.{single, walked};
+ghost use Rattle.instances.specs.Filled.{filled};
+
+// The nodes of the term at a bit, just as they stand.
+fn hold_term(book: &[u8], s: &[u8], w: &[u64], base: usize, from: Held, at: usize) -> Held
+    requires { ⌜ Room base (from .parts) (now w) ⌝ }
+    requires { ⌜ (from .nodes ≤ NODES) × (from .a + from .b ≤ 2 ^ 60) ⌝ }
+    ensures { λ r. ⌜ Came (now (w .entry)) base (walked (now (book .entry)) (now (s .entry)) at .met) from r ⌝ }
+{
+    let mut h = from;
+    let mut p = Stand { at, pending: 1 };
+    let mut left: usize = 256;
+    loop {
+        let Turn::Node { header, stand } = step(book, s, p, left) else {
+            return h;
+        };
+        h = table::second::hold(w, base, h, item_of(header, 1, 0));
+        p = stand;
+        left -= 1;
+    }
+}
+
+// A node of an instance: a listed variable's term as it stands, any other node reindexed.
+fn hold_filled(
+    book: &[u8],
+    certificate: &[u8],
+    w: &[u64],
+    base: usize,
+    h: Held,
+    header: Header,
+    i: u16,
+    j: u16,
+    fills: usize,
+) -> Held
+    requires { ⌜ Room base (h .parts) (now w) ⌝ }
+    requires { ⌜ (h .nodes ≤ NODES) × (h .a + h .b ≤ 2 ^ 60) × (fills + 64 ≤ length (now w)) ⌝ }
+    ensures { λ r. ⌜ Came (now (w .entry)) base (flatMap (filled (now (book .entry)) (now (certificate .entry)) (now (w .entry)) fills i j) (single header)) h r ⌝ }
+{
+    let word = word_of(w, fills, header);
+    if word == 0 {
+        return table::second::hold(w, base, h, item_of(header, i, j));
+    }
+    hold_term(book, certificate, w, base, h, (word - 1) as usize)
+}
+
+// The instance of the term at a bit of s, reindexed by (i, j) and filled by terms of the certificate as the words at `fills` tell, held against
+// the n nodes that are stored at `base`.
+pub fn hold_instance(
+    book: &[u8],
+    s: &[u8],
+    certificate: &[u8],
+    w: &[u64],
+    base: usize,
+    n: usize,
+    at: usize,
+    i: u16,
+    j: u16,
+    fills: usize,
+) -> Outcome
+    requires { ⌜ Room base n (now w) ⌝ }
+    requires { ⌜ fills + 64 ≤ length (now w) ⌝ }
+    ensures { λ r. ⌜ Against (now (book .entry)) (now (s .entry)) (now (certificate .entry)) base n at i j fills (now (w .entry)) r ⌝ }
+{
+    let mut h = Held {
+        nodes: 0,
+        parts: n,
+        code: 0,
+        a: 0,
+        b: 0,
+    };
+    let mut p = Stand { at, pending: 1 };
+    let mut left: usize = 256;
+    loop {
+        if h.nodes > NODES {
+            return Outcome::Full;
+        }
+        let Turn::Node { header, stand } = step(book, s, p, left) else {
+            return table::second::outcome(w, base, n, h);
+        };
+        h = hold_filled(book, certificate, w, base, h, header, i, j, fills);
+        p = stand;
+        left -= 1;
+    }
+}
