@@ -32,25 +32,17 @@ enum Place {
 /// A pair in which two sides that part like this are compared; often none comes of it.
 pub fn two_sides(parting: Parting, random: &mut Random) -> Option<Case> {
     use Place::*;
-    let place = match parting {
-        Parting::Empty => *random.pick(&[UsedRight, ReachedCall, BaseRight]),
-        _ => *random.pick(&[
-            Calls,
-            Calls,
-            Calls,
-            Calls,
-            Calls,
-            UsedRight,
-            UsedRight,
-            ReachedCall,
-            Closing,
-            Closing,
-            BaseLeft,
-            BaseRight,
-            DescentHead,
-            DescentCall,
-            UnfoldHead,
-        ]),
+    let place = match random.below(15) {
+        _ if parting == Parting::Empty => *random.pick(&[UsedRight, ReachedCall, BaseRight]),
+        0..=4 => Calls,
+        5 | 6 => UsedRight,
+        7 => ReachedCall,
+        8 | 9 => Closing,
+        10 => BaseLeft,
+        11 => BaseRight,
+        12 => DescentHead,
+        13 => DescentCall,
+        _ => UnfoldHead,
     };
     let large = random.chance(1, 3) && matches!(place, Calls | UsedRight | ReachedCall | Closing);
     let arity = if large { 8 } else { 2 };
