@@ -3,6 +3,7 @@
 use crate::files::name_of;
 use generate::asked::{labels, wanted};
 use generate::calls::Asking;
+use generate::parted;
 use generate::tally::part_in_words;
 use generate::writing::Task;
 use second::{Answer, Refusal, Verdict};
@@ -22,6 +23,9 @@ impl Coverage {
     }
 
     pub fn judged(&mut self, book: &[u8], certificate: &[u8], verdict: &Verdict) {
+        for label in parted::labels(book, certificate, verdict) {
+            self.count(format!("judge: {label}"));
+        }
         match verdict {
             Verdict::Accepted { .. } => self.count("judge: accepted".to_string()),
             Verdict::Refused(refusal) if refusal.number < 9 => {
@@ -80,7 +84,8 @@ fn without_part(operation: &str, refusal: &Refusal) -> String {
     format!("{operation}: {:2} {}", refusal.number, PLACES[usize::from(refusal.w)])
 }
 
-/// Every refusal number, place and part that judging can give.
+/// Every refusal number, place and part that judging can give, and how sides can part or
+/// be equal.
 pub fn wanted_of_judging() -> Vec<String> {
     let mut wanted = vec!["accepted".to_string(), " 1 neither".to_string()];
     for number in 2..=7 {
@@ -114,6 +119,7 @@ pub fn wanted_of_judging() -> Vec<String> {
     for side in ["first side", "second side", "both sides", "second side, right empty"] {
         wanted.push(format!("16, {side}"));
     }
+    wanted.extend(parted::wanted());
     wanted.into_iter().map(|label| format!("judge: {label}")).collect()
 }
 

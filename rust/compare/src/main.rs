@@ -1,6 +1,7 @@
 //! The comparison as a program. It prints how many inputs met each refusal number,
-//! place and part, and closes with 'N passed, 0 failed': one for each kind of run, and
-//! one if each of these was met. It fails at the first difference.
+//! place and part, and each way in which two sides part or are equal, and closes with
+//! 'N passed, 0 failed': one for each kind of run, and one if each of these was met. It
+//! fails at the first difference.
 
 use compare::answers::{answers_in_numbers, coverage_in_numbers};
 use compare::calls::ask_both;

@@ -69,7 +69,7 @@ pub fn accepted(random: &mut Random) -> (&'static str, Case) {
     }
 }
 
-fn fits_the_files(case: &Case) -> bool {
+pub fn fits_the_files(case: &Case) -> bool {
     pack_book(&case.book).len() <= BOOK_BYTES
         && pack_certificate(&case.certificate).len() <= CERTIFICATE_BYTES
 }

@@ -1,8 +1,11 @@
 //! Inputs for judges, in the program's framing.
 
 use crate::damage::{change_bytes, change_fields, change_trees, flip_bits, flip_near_the_end};
-use crate::faults::{accepted, failing, Goal, GOALS};
+use crate::faults::{accepted, failing, fits_the_files, Goal, GOALS};
+use crate::placing::two_sides;
 use crate::random::Random;
+use crate::scramble::scrambled;
+use crate::sides::{Parting, PARTINGS};
 use crate::world::Case;
 use second::spell::{book_fields, certificate_fields, pack, pack_book, pack_certificate};
 
@@ -11,6 +14,7 @@ use second::spell::{book_fields, certificate_fields, pack, pack_book, pack_certi
 pub enum Kind {
     Accepted(&'static str),
     Failing(Goal),
+    Sides(Parting),
     Bits,
     Bytes,
     Fields,
@@ -40,7 +44,7 @@ impl Inputs {
 
     pub fn next_input(&mut self) -> Input {
         let random = &mut self.random;
-        match random.below(200) {
+        match random.below(220) {
             0..=39 => self.accepted(),
             40..=99 => self.failing(),
             100..=124 => self.damaged(Kind::Bits),
@@ -48,7 +52,8 @@ impl Inputs {
             145..=174 => self.damaged(Kind::Fields),
             175..=192 => self.trees(),
             193..=196 => self.frame(),
-            _ => self.long(),
+            197..=199 => self.long(),
+            _ => self.sides(),
         }
     }
 
@@ -64,6 +69,21 @@ impl Inputs {
             _ => *self.random.pick(&GOALS),
         };
         of_case(Kind::Failing(goal), &failing(goal, &mut self.random))
+    }
+
+    /// Two sides that part at a chosen node, or nowhere.
+    fn sides(&mut self) -> Input {
+        let random = &mut self.random;
+        loop {
+            let parting = *random.pick(&PARTINGS);
+            let Some(mut case) = two_sides(parting, random) else { continue };
+            if random.chance(1, 2) {
+                case = scrambled(case, random);
+            }
+            if fits_the_files(&case) {
+                return of_case(Kind::Sides(parting), &case);
+            }
+        }
     }
 
     /// Either an accepted or a failing pair, as a start for damage.

@@ -1,6 +1,7 @@
 //! Counts of verdicts by refusal number, W and part.
 
 use crate::inputs::{Input, Inputs, Kind};
+use crate::parted::labels;
 use second::files::parse_both;
 use second::judging::SIDE_NODES;
 use second::{judge_input, Book, Certificate, Proof, Refusal, Term, Use, Verdict};
@@ -13,6 +14,8 @@ pub struct Tally {
     /// By number, W and a description of the part.
     pub refused: BTreeMap<(u8, u8, String), usize>,
     pub by_kind: BTreeMap<String, usize>,
+    /// By what the sides of comparisons were.
+    pub compared: BTreeMap<String, usize>,
     /// Inputs made to be accepted that are not.
     pub missed: usize,
 }
@@ -22,9 +25,11 @@ impl Tally {
         let name = match input.kind {
             Kind::Accepted(_) => "accepted shapes".to_string(),
             Kind::Failing(goal) => format!("failing: {goal:?}"),
+            Kind::Sides(parting) => format!("two sides that part: {parting:?}"),
             other => format!("damaged: {other:?}"),
         };
         *self.by_kind.entry(name).or_default() += 1;
+        self.count_compared(input, verdict);
         match (verdict, input.kind) {
             (Verdict::Accepted { .. }, Kind::Accepted(shape)) => {
                 *self.accepted.entry(shape).or_default() += 1;
@@ -34,6 +39,19 @@ impl Tally {
                 self.missed += usize::from(matches!(kind, Kind::Accepted(_)));
                 let place = (refusal.number, refusal.w, part_of(&input.framed, refusal));
                 *self.refused.entry(place).or_default() += 1;
+            }
+        }
+    }
+
+    fn count_compared(&mut self, input: &Input, verdict: &Verdict) {
+        let judged = match verdict {
+            Verdict::Accepted { .. } => true,
+            Verdict::Refused(refusal) => refusal.number >= 9,
+        };
+        if judged {
+            let (book, certificate) = files_of(&input.framed);
+            for label in labels(book, certificate, verdict) {
+                *self.compared.entry(label).or_default() += 1;
             }
         }
     }
@@ -48,6 +66,10 @@ impl Tally {
         println!("refused:");
         for ((number, w, part), count) in &self.refused {
             println!("    {number:2} W={w} {part}: {count}");
+        }
+        println!("compared:");
+        for (label, count) in &self.compared {
+            println!("    {label}: {count}");
         }
         println!("made:");
         for (kind, count) in &self.by_kind {

@@ -1,8 +1,10 @@
 //! The vectors of data/: what they meet, that the accepted ones run, and that they
 //! are packed as they stand.
 
+use generate::parted;
 use second::derive::{derive, plain_at, replay, Limits};
 use second::files::{parse_both, parse_call};
+use second::judging::WORK_NUMBERS;
 use second::replay::{has_filling, PlainFilling};
 use std::collections::BTreeSet;
 use std::path::{Path, PathBuf};
@@ -121,6 +123,23 @@ fn every_refusal_of_a_call_is_met() {
         .collect();
     for index in ["0", "1", "2", "3", "4094", "4095"] {
         assert!(indices.contains(index), "{index}");
+    }
+}
+
+/// As generated inputs have to.
+#[test]
+fn sides_part_in_every_way() {
+    let mut met = BTreeSet::new();
+    let mut work = vec![0; WORK_NUMBERS];
+    for vector in vectors() {
+        if vector.operation == Operation::Judge && vector.lent == WORK_NUMBERS {
+            let (book, certificate) = (vector.first.bytes(), vector.second.bytes());
+            let verdict = second::judge(book, certificate, &mut work);
+            met.extend(parted::labels(book, certificate, &verdict));
+        }
+    }
+    for wanted in parted::wanted() {
+        assert!(met.contains(&wanted), "{wanted}");
     }
 }
 

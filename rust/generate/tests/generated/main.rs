@@ -5,3 +5,4 @@ mod files;
 mod inputs;
 mod meaning;
 mod running;
+mod sides;
