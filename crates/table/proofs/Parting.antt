@@ -3,13 +3,13 @@ use Prim.Native.Nat.{ℕ, _+_, _*_, _%_, _≤_, _<_}
 use mathlib.Core.Path.{_≡_, refl, sym, ap, ap₂, subst, _∙_}
 use mathlib.Core.Logic.{_≢_}
 use mathlib.Core.Bool.{Bool, true, false}
-use mathlib.Core.List.{List, _∷_}
+use mathlib.Core.List.{List, [], _∷_}
 use native.Mathlib.Decide.{ℕ-discrete}
 use native.Mathlib.Omega.{arith}
 use lib.Dec.{eqb}
 use lib.ListN.{length, getD}
 use borrow.Author.Tests.{eq-eqb, ne-eqb}
-use Rattle.patterns.specs.Term.{Node, npow}
+use Rattle.patterns.specs.Term.{Node, nvar, nfun, npow}
 use Rattle.patterns.specs.First.{Exp}
 use Rattle.patterns.specs.Counters.{pair-path}
 use Rattle.table.specs.Nodes.{nodeOf, nodeAt, stack}
@@ -23,41 +23,41 @@ use Rattle.table.proofs.Answer.{says-true, says-false}
 module _ {w : List ℕ} {base n : ℕ} where
   pub parts-low : {ns : List (Node Exp)} {p : ℕ} → Parts w base n ns p → p ≤ n
   parts-low (none e) = omega arith
-  parts-low (before l x) = parts-low x
-  parts-low (alike l e x) = parts-low x
-  parts-low (here l d e x) = omega (arith, parts-low x)
+  parts-low (before x l) = parts-low x
+  parts-low (alike x l e) = parts-low x
+  parts-low (here x l d e) = omega (arith, parts-low x)
 
   -- no node differs
   pub parts-none : {ns : List (Node Exp)} {p : ℕ} → Parts w base n ns p → p ≡ n → length ns ≤ n → stack w base (length ns) ≡ ns
   unfolding stack
   parts-none (none e) q l = refl
-  parts-none (before b x) q l = absurd (omega arith)
-  parts-none (alike b e x) q l = ap₂ _∷_ e (parts-none x q (omega arith))
-  parts-none (here b d e x) q l = absurd (omega (arith, parts-low x))
+  parts-none (before x b) q l = absurd (omega arith)
+  parts-none (alike x b e) q l = ap₂ _∷_ e (parts-none x q (omega arith))
+  parts-none (here x b d e) q l = absurd (omega (arith, parts-low x))
 
   -- one does
   pub parts-some : {ns : List (Node Exp)} {p : ℕ} → Parts w base n ns p → p < n → stack w base (length ns) ≢ ns
   unfolding stack
   parts-some (none e) l q = omega arith
-  parts-some (before b x) l q = parts-some x l (cc)
-  parts-some (alike b e x) l q = parts-some x l (cc)
-  parts-some (here b d e x) l q = d (cc)
+  parts-some (before x b) l q = parts-some x l (cc)
+  parts-some (alike x b e) l q = parts-some x l (cc)
+  parts-some (here x b d e) l q = d (cc)
 
 -- ---- one node more
 
 module _ {w : List ℕ} {base k p : ℕ} {m : Node Exp} where
   pub counts-before : p ≤ k → Counts w base k p m p
-  counts-before l = record { told = λ n ns e x. before {ns = ns} {p = p} (omega arith) x; low = omega arith }
+  counts-before l = record { told = λ n ns e x. before x (omega arith); low = omega arith }
 
   counts-alike : k < p → nodeAt w (base + 3 * k) ≡ m → Counts w base k p m p
   counts-alike l q = record {
-    told = λ n ns e x. alike {ns = ns} {p = p} (omega arith) (subst (λ i. nodeAt w (base + 3 * i) ≡ m) e q) x;
+    told = λ n ns e x. alike x (omega arith) (subst (λ i. nodeAt w (base + 3 * i) ≡ m) e q);
     low = omega arith;
   }
 
   counts-here : k < p → nodeAt w (base + 3 * k) ≢ m → Counts w base k p m k
   counts-here l q = record {
-    told = λ n ns e x. here {ns = ns} {q = p} (omega arith) (subst (λ i. nodeAt w (base + 3 * i) ≢ m) e q) e x;
+    told = λ n ns e x. here x (omega arith) (subst (λ i. nodeAt w (base + 3 * i) ≢ m) e q) e;
     low = omega arith;
   }
 
@@ -109,3 +109,21 @@ module _ {w : List ℕ} {base k p code a b : ℕ} where
 
     pub power-here : t ≡ false → CountsPower w base k p code a b k
     power-here q = record { told = λ s e. counts-here l (says-false t (x .told s e) q); low = omega arith }
+
+-- ---- worked examples: f(s^{1,2}(x)) is stored, in nine words
+
+abbrev pub stored : List ℕ
+stored = 1 ∷ 0 ∷ 0 ∷ 2 ∷ 1 ∷ 2 ∷ 0 ∷ 0 ∷ 0 ∷ []
+
+-- f(s^{1,2}(x)) does not part from it; f(s^{1,3}(y)) does at number 1, and not again at 2
+pub parts-nowhere : Parts stored 0 3 (nvar 0 ∷ npow 0 (1, 2) ∷ nfun 0 ∷ []) 3
+unfolding nodeAt nodeOf
+parts-nowhere = alike (alike (alike (none refl) (omega arith) refl) (omega arith) refl) (omega arith) refl
+
+other-b : nodeAt stored 3 ≢ npow 0 (1, 3)
+unfolding nodeAt nodeOf
+other-b e = let q : _≡_ {A = Exp} (1, 2) (1, 3) = cc in omega (arith, ap (λ (x : Exp). x .1) q)
+
+pub parts-at-1 : Parts stored 0 3 (nvar 1 ∷ npow 0 (1, 3) ∷ nfun 0 ∷ []) 1
+unfolding nodeAt nodeOf
+parts-at-1 = before (here (alike (none refl) (omega arith) refl) (omega arith) other-b refl) (omega arith)

@@ -21,10 +21,10 @@ use Rattle.table.specs.declared.Outcome.the-variants.{Same, Other, Full}
 -- long as none does
 pub data Parts (w : List ℕ) (base n : ℕ) : List (Node Exp) → ℕ → Type 0 where
   none : {p : ℕ} → p ≡ n → Parts w base n [] p
-  before : {m : Node Exp} {ns : List (Node Exp)} {p : ℕ} → p ≤ length ns → Parts w base n ns p → Parts w base n (m ∷ ns) p
-  alike : {m : Node Exp} {ns : List (Node Exp)} {p : ℕ} → length ns < p → nodeAt w (base + 3 * length ns) ≡ m → Parts w base n ns p
+  before : {m : Node Exp} {ns : List (Node Exp)} {p : ℕ} → Parts w base n ns p → p ≤ length ns → Parts w base n (m ∷ ns) p
+  alike : {m : Node Exp} {ns : List (Node Exp)} {p : ℕ} → Parts w base n ns p → length ns < p → nodeAt w (base + 3 * length ns) ≡ m
       → Parts w base n (m ∷ ns) p
-  here : {m : Node Exp} {ns : List (Node Exp)} {p q : ℕ} → length ns < q → nodeAt w (base + 3 * length ns) ≢ m → p ≡ length ns → Parts w base n ns q
+  here : {m : Node Exp} {ns : List (Node Exp)} {p q : ℕ} → Parts w base n ns q → length ns < q → nodeAt w (base + 3 * length ns) ≢ m → p ≡ length ns
       → Parts w base n (m ∷ ns) p
 
 -- r takes the place of p where m comes as number k

@@ -8,9 +8,9 @@ ghost use mathlib.Core.Path.{_≡_};
 ghost use Prim.Native.Nat.{_+_, _%_, _<_, _≤_, _^_};
 ghost use mathlib.Core.List.{[], _∷_};
 ghost use lib.ListN.{length};
+ghost use Rattle.patterns.specs.Term.{npow};
 ghost use Rattle.table.specs.Nodes.{nodeOf, load};
 ghost use Rattle.table.specs.Sides.{node-told, Coded, Room};
-ghost use Rattle.patterns.specs.Term.{npow};
 ghost use Rattle.table.specs.Second.{IsPower, Counts, CountsPower, Settles, Holds, Ends};
 
 // Whether the node at a place is the power that three words tell.
