@@ -9,13 +9,13 @@ returns : tie.Need-returns
 returns c = ends-full (c .before .before .settle .ensures) (omega arith)
 
 returns-2 : tie.Need-returns-2
-returns-2 c = ends-count (c .before .before .before .before .settle .ensures) (omega arith) (c .if2 .taken)
+returns-2 c = ends-count (c .before .before .before .before .settle .ensures) (omega arith) (λ e. omega arith)
 
 returns-3 : tie.Need-returns-3
-returns-3 c = ends-parted (c .before .before .before .before .before .before .settle .ensures) (omega arith) (c .before .before .if2 .left) (c .if3 .taken)
+returns-3 c = ends-parted (c .before .before .before .before .before .before .settle .ensures) (omega arith) (omega arith) (c .if3 .taken)
 
 returns-4 : tie.Need-returns-4
-returns-4 c = ends-same (c .before .before .before .before .before .before .settle .ensures) (omega arith) (c .before .before .if2 .left) (c .if3 .left)
+returns-4 c = ends-same (c .before .before .before .before .before .before .settle .ensures) (omega arith) (omega arith) (c .if3 .left)
 
 pub outcome-spec : {M : Type 1} → statement M
 outcome-spec =
