@@ -12,12 +12,12 @@ use Rattle.table.specs.Places.{WORDS, OWN, USED, FIRST, SIDE}
 use Rattle.table.specs.Nodes.{side}
 use Rattle.table.specs.Sides.{Room}
 use Rattle.table.specs.Marks.{markNodes, formNodes, Built}
-use Rattle.table.specs.Second.{Comes}
+use Rattle.table.specs.Second.{Amounts}
 use Rattle.table.specs.declared.Pushed.the-variants.{Count, NoRoom}
 use Rattle.table.specs.declared.Outcome.{Outcome}
 use Rattle.table.specs.declared.Outcome.the-variants.{Same, Other, Full as Many}
 use Rattle.table.proofs.Writes.{kept-self}
-use Rattle.table.proofs.Marks.{built-empty, built-small, built-large, comes-same, comes-other, comes-full}
+use Rattle.table.proofs.Marks.{built-empty, built-small, built-large, amounts-same, amounts-other, amounts-full}
 use Rattle.comparing.specs.declared.Subject.{Subject}
 use Rattle.comparing.specs.declared.Subject.the-variants.{Empty, Call, Claimed}
 use Rattle.comparing.specs.declared.Filled.{Filled}
@@ -28,7 +28,7 @@ use Rattle.instances.specs.declared.Side.the-variants.{Done, Full}
 use Rattle.instances.specs.Lying.{arities, behind}
 use Rattle.instances.specs.Instances.{Stored, FewNodes, Builds, Against}
 use Rattle.begins.specs.Known.{Below}
-use Rattle.comparing.specs.Subjects.{InstanceAt, fills-of, Means, Sided, ComesEmpty, Seconded, Settles, Compares}
+use Rattle.comparing.specs.Subjects.{InstanceAt, fills-of, Means, Sided, AmountsEmpty, Seconded, Settles, Compares}
 use Rattle.instances.proofs.Instances.{few-done}
 use Rattle.instances.proofs.Comings.{against-form}
 use Rattle.instances.proofs.Terms.{formed-instance}
@@ -104,14 +104,14 @@ sided-as {book} {cert} {w} {after} {r = r} e s = subst (λ x. Sided book cert x 
 
 -- ---- the second side
 
-pub seconded-empty : {book cert w : List ℕ} {n : ℕ} {r : Outcome} → ComesEmpty n r → Seconded book cert n Empty w r
+pub seconded-empty : {book cert w : List ℕ} {n : ℕ} {r : Outcome} → AmountsEmpty n r → Seconded book cert n Empty w r
 unfolding Means markNodes
-seconded-empty {w = w} {n = n} {r = r} c = record { told = λ k end x. subst (λ m. Comes (side w FIRST n) (formNodes m) r) (sym (x .0)) (c .told w) }
+seconded-empty {w = w} {n = n} {r = r} c = record { told = λ k end x. subst (λ m. Amounts (side w FIRST n) (formNodes m) r) (sym (x .0)) (c .told w) }
 
 second-instance : {book s cert w : List ℕ} {n at i j fills : ℕ} {r : Outcome} → Against book s cert FIRST n at i j fills w r
-    → (k : Mark Exp) (end : ℕ) → InstanceAt book s cert w at i j fills k end → Comes (side w FIRST n) (formNodes k) r
+    → (k : Mark Exp) (end : ℕ) → InstanceAt book s cert w at i j fills k end → Amounts (side w FIRST n) (formNodes k) r
 second-instance {w = w} {n = n} {r = r} a k end x =
-    subst (λ m. Comes (side w FIRST n) (formNodes m) r) (sym (x .mark)) (against-form a (x .term) (x .filling) (x .lies) (x .filled))
+    subst (λ m. Amounts (side w FIRST n) (formNodes m) r) (sym (x .mark)) (against-form a (x .term) (x .filling) (x .lies) (x .filled))
 
 module _ {book cert w : List ℕ} {n at : ℕ} {r : Outcome} where
   pub seconded-call : Against book book cert FIRST n at 1 0 OWN w r → Seconded book cert n (Call at) w r
@@ -150,17 +150,17 @@ module _ {book cert w v : List ℕ} {a : Subject} {r : Side} (first : Sided book
     second-room h = record { within = omega (arith, first .kept .size); few = few-done (first .few) p }
 
     module _ {b : Subject} {o : Outcome} (second : Seconded book cert n b v o) where
-      -- the first side as it was stored, and what the second comes to beside it
+      -- the first side as it was stored, and what the second amounts to beside it
       one : (c : Mark Exp) (end : ℕ) → Means book cert w a c end → Built FIRST c v (Count n) × (e ≡ end)
       one c end x = stored-done end c v (first .told c end x) p
 
-      two : (d : Mark Exp) (end : ℕ) → Means book cert w b d end → Comes (side v FIRST n) (formNodes d) o
+      two : (d : Mark Exp) (end : ℕ) → Means book cert w b d end → Amounts (side v FIRST n) (formNodes d) o
       two d end x = second .told d end (means-below book cert w v b d end (kept-below (first .kept)) x)
 
       pub second-full : o ≡ Many → Compares book cert a b w v TooBig
       unfolding Settles
       second-full q = record {
-        told = λ c x g d y h. λ z. comes-full (side v FIRST n) d (subst (Comes (side v FIRST n) (formNodes d)) q (two d y h)) (z .1);
+        told = λ c x g d y h. λ z. amounts-full (side v FIRST n) d (subst (Amounts (side v FIRST n) (formNodes d)) q (two d y h)) (z .1);
         below = kept-below (first .kept);
       }
 
@@ -168,8 +168,8 @@ module _ {book cert w v : List ℕ} {a : Subject} {r : Side} (first : Sided book
       unfolding Settles
       second-same q = record {
         told = λ c x g d y h.
-            let met = comes-same (arities book) FIRST n c d v (means-formed book cert w a c x g) (means-formed book cert w b d y h) (one c x g .0)
-            (subst (Comes (side v FIRST n) (formNodes d)) q (two d y h)) in
+            let met = amounts-same (arities book) FIRST n c d v (means-formed book cert w a c x g) (means-formed book cert w b d y h) (one c x g .0)
+            (subst (Amounts (side v FIRST n) (formNodes d)) q (two d y h)) in
             (built-small FIRST n c v (one c x g .0), met .0, met .1, one c x g .1);
         below = kept-below (first .kept);
       }
@@ -178,8 +178,8 @@ module _ {book cert w v : List ℕ} {a : Subject} {r : Side} (first : Sided book
       unfolding Settles
       second-other q = record {
         told = λ c x g d y h.
-            let met = comes-other (arities book) FIRST n c d v (means-formed book cert w a c x g) (means-formed book cert w b d y h) (one c x g .0)
-            (subst (Comes (side v FIRST n) (formNodes d)) q (two d y h)) in
+            let met = amounts-other (arities book) FIRST n c d v (means-formed book cert w a c x g) (means-formed book cert w b d y h) (one c x g .0)
+            (subst (Amounts (side v FIRST n) (formNodes d)) q (two d y h)) in
             (built-small FIRST n c v (one c x g .0), met .0, met .1);
         below = kept-below (first .kept);
       }

@@ -13,7 +13,7 @@ use Rattle.table.specs.Places.{EMPTY, OWN, USED, FIRST, SIDE}
 use Rattle.table.specs.Nodes.{side}
 use Rattle.table.specs.Sides.{Kept}
 use Rattle.table.specs.Marks.{formNodes}
-use Rattle.table.specs.Second.{Comes}
+use Rattle.table.specs.Second.{Amounts}
 use Rattle.table.specs.declared.Outcome.{Outcome}
 use Rattle.comparing.specs.declared.Subject.{Subject}
 use Rattle.comparing.specs.declared.Subject.the-variants.{Empty, Call, Claimed}
@@ -56,11 +56,11 @@ pub record Sided (book cert : List ℕ) (a : Subject) (w after : List ℕ) (r : 
 
 -- the second side was held against the n nodes of the first
 pub record Seconded (book cert : List ℕ) (n : ℕ) (b : Subject) (w : List ℕ) (r : Outcome) : Type 0 where
-  pub told : (k : Mark Exp) (end : ℕ) → Means book cert w b k end → Comes (side w FIRST n) (formNodes k) r
+  pub told : (k : Mark Exp) (end : ℕ) → Means book cert w b k end → Amounts (side w FIRST n) (formNodes k) r
 
 -- 01: "The empty mark has no nodes"
-pub record ComesEmpty (n : ℕ) (r : Outcome) : Type 0 where
-  pub told : (w : List ℕ) → Comes (side w FIRST n) [] r
+pub record AmountsEmpty (n : ℕ) (r : Outcome) : Type 0 where
+  pub told : (w : List ℕ) → Amounts (side w FIRST n) [] r
 
 -- what a comparison settles, where the first side's term ends at `end`
 unfoldable pub Settles : Mark Exp → Mark Exp → ℕ → Compared → Type 0

@@ -15,7 +15,7 @@ ghost use Prim.Native.Nat.{_≤_};
 ghost use lib.ListN.{length};
 ghost use Rattle.table.specs.Places.{WORDS, USED, FIRST};
 ghost use Rattle.table.specs.Sides.{Room};
-ghost use Rattle.comparing.specs.Subjects.{fills-of, Sided, ComesEmpty, Seconded, Compares};
+ghost use Rattle.comparing.specs.Subjects.{fills-of, Sided, AmountsEmpty, Seconded, Compares};
 ghost use Rattle.comparing.specs.Asked.{Equals};
 
 // Where the words of a filling stand.
@@ -52,7 +52,7 @@ fn first_side(book: &[u8], certificate: &[u8], w: &mut [u64], a: Subject) -> Sid
 
 // The empty mark as second side, where the first has n nodes.
 fn no_side(n: usize) -> Outcome
-    ensures { λ r. ⌜ ComesEmpty n r ⌝ }
+    ensures { λ r. ⌜ AmountsEmpty n r ⌝ }
 {
     if n == 0 {
         return Outcome::Same;

@@ -14,13 +14,13 @@ use Rattle.table.specs.Places.{NODES}
 use Rattle.table.specs.Nodes.{load, side}
 use Rattle.table.specs.Sides.{node-told, Coded, Room}
 use Rattle.table.specs.Marks.{formNodes}
-use Rattle.table.specs.Second.{Stands, Came, Holds, Comes, Ends}
+use Rattle.table.specs.Second.{Tracks, Came, CameOne, Amounts, Concludes}
 use Rattle.table.specs.declared.Item.{Item}
 use Rattle.table.specs.declared.Held.{Held}
 use Rattle.table.specs.declared.Outcome.{Outcome}
 use Rattle.table.specs.declared.Outcome.the-variants.{Full}
 use Rattle.table.proofs.Loads.{load-append, load-push, load-pushes}
-use Rattle.table.proofs.Holding.{held-none, stands-many, came-none, came-then, came-as}
+use Rattle.table.proofs.Holding.{held-none, tracks-many, came-none, came-then, came-as}
 use Rattle.instances.specs.Lying.{TermAt}
 use Rattle.instances.specs.Fillings.{FillsTold}
 use Rattle.instances.specs.Walks.{single, first-stand, walk, Turns, walked}
@@ -44,17 +44,17 @@ pub item-comes : {i j base : ℕ} {w : List ℕ} (h : Held) {header : Header} {m
     → Room base (h .parts) w × ((h .nodes ≤ 2 ^ 32) × (h .a + h .b + load (node-told m ∷ []) < 2 ^ 64) × Coded m)
 item-comes h c room few l = (room, (few, omega (arith, c .light), c .coded))
 
-pub came-item : {w : List ℕ} {base i j : ℕ} {h r : Held} {header : Header} {m : Item} → ComesAs i j header m → Holds w base (node-told m) h r
+pub came-item : {w : List ℕ} {base i j : ℕ} {h r : Held} {header : Header} {m : Item} → ComesAs i j header m → CameOne w base (node-told m) h r
     → Came w base (retag (shift (i, j)) (single header)) h r
 unfolding pushes load
 came-item {w} {base} {i} {j} {h} {r} {header} {m} c k = record {
-  told = λ n ns x. subst (Stands w base n r) (c .node ns) (k .came .told n ns x);
+  told = λ n ns x. subst (Tracks w base n r) (c .node ns) (k .came .told n ns x);
   low = k .came .low;
   light = omega
       (arith, k .came .light, load-push [] (node-told m), load-pushes [] (retag (shift (i, j)) (single header)), ap load (c .node []));
 }
 
-pub came-plain : {w : List ℕ} {base : ℕ} {h r : Held} {header : Header} {m : Item} → ComesAs 1 0 header m → Holds w base (node-told m) h r
+pub came-plain : {w : List ℕ} {base : ℕ} {h r : Held} {header : Header} {m : Item} → ComesAs 1 0 header m → CameOne w base (node-told m) h r
     → Came w base (flatMap itself (single header)) h r
 came-plain {header = header} c k = came-as (plain header) (came-item c k)
 
@@ -103,7 +103,7 @@ term-comes {book} {s} {at} {h = h} g c room few l =
 -- ---- a node of an instance
 
 module _ (book cert w : List ℕ) (fills i j : ℕ) {base : ℕ} {h r : Held} (header : Header) {word : ℕ} (e : word ≡ wordOf w fills header) where
-  pub came-unlisted : {m : Item} → word ≡ 0 → ComesAs i j header m → Holds w base (node-told m) h r
+  pub came-unlisted : {m : Item} → word ≡ 0 → ComesAs i j header m → CameOne w base (node-told m) h r
       → Came w base (flatMap (filled book cert w fills i j) (single header)) h r
   came-unlisted z c k = came-as (gives-itself book cert w fills i j header word e z) (came-item c k)
 
@@ -126,11 +126,11 @@ module _ (book s cert w : List ℕ) (at fills i j base n : ℕ) {h : Held} {left
     (few, omega (arith, coming-light (filled book cert w fills i j) g (2 ^ 38) (filled-light book cert w fills i j small-i small-j s at)), low),
   )
 
-  pub against-over : {r : Turn} {o : Outcome} → Turns book s left p r → r ≡ Over → Ends w base n h o → Against book s cert base n at i j fills w o
-  against-over k e x = record { comes = x .told _ (coming-over (filled book cert w fills i j) g k e .told n [] (held-none w base n)) }
+  pub against-over : {r : Turn} {o : Outcome} → Turns book s left p r → r ≡ Over → Concludes w base n h o → Against book s cert base n at i j fills w o
+  against-over k e x = record { amounts = x .told _ (coming-over (filled book cert w fills i j) g k e .told n [] (held-none w base n)) }
 
   pub against-full : NODES < h .nodes → Against book s cert base n at i j fills w Full
-  unfolding Comes
+  unfolding Amounts
   against-full l =
       let f = filled book cert w fills i j in
       let met = flatMap f (g .met) in
@@ -139,13 +139,13 @@ module _ (book s cert w : List ℕ) (at fills i j base n : ℕ) {h : Held} {left
       let e : length whole ≡ length (pushes exponents (pushes exponents [] met) rest) =
       ap (λ l. length (pushes exponents [] l)) (sym (given-rest f g)) ∙ ap length (pushes-append exponents [] met rest) in
       record {
-        comes = omega
-            (arith, e, length-reverse whole, stands-many (g .holds .told n [] (held-none w base n)), pushes-grow exponents (pushes exponents [] met) rest);
+        amounts = omega
+            (arith, e, length-reverse whole, tracks-many (g .holds .told n [] (held-none w base n)), pushes-grow exponents (pushes exponents [] met) rest);
       }
 
--- the walk over a term that lies there comes to the nodes of the instance's normal form
+-- the walk over a term that lies there amounts to the nodes of the instance's normal form
 pub against-form : {book s cert : List ℕ} {base n at i j fills : ℕ} {w : List ℕ} {r : Outcome} → Against book s cert base n at i j fills w r
     → (t : Pattern) (θ : Filling Exp) → TermAt book s at t → FillsTold book cert w fills θ
-    → Comes (side w base n) (formNodes (some (fill θ (reindex one (i, j) t)))) r
+    → Amounts (side w base n) (formNodes (some (fill θ (reindex one (i, j) t)))) r
 against-form {book} {s} {cert} {base} {n} {at} {i} {j} {fills} {w} {r} a t θ h F =
-    subst (λ ns. Comes (side w base n) ns r) (instance-form book cert w fills i j s at t θ h F) (a .comes)
+    subst (λ ns. Amounts (side w base n) ns r) (instance-form book cert w fills i j s at t θ h F) (a .amounts)

@@ -12,7 +12,7 @@ use Rattle.patterns.specs.Push.{pushes}
 use Rattle.table.specs.Places.{SIDE, NODES}
 use Rattle.table.specs.Nodes.{side}
 use Rattle.table.specs.Sides.{Kept}
-use Rattle.table.specs.Second.{Comes}
+use Rattle.table.specs.Second.{Amounts}
 use Rattle.table.specs.Marks.{Built}
 use Rattle.table.specs.Answer.{Says}
 use Rattle.table.specs.declared.Pushed.the-variants.{Count, NoRoom}
@@ -50,4 +50,4 @@ pub record Builds (book s cert : List ℕ) (base at i j fills : ℕ) (w after : 
 
 -- the nodes of the walk over the term at a bit, reindexed, filled and merged, beside the n that are stored at `base`
 pub record Against (book s cert : List ℕ) (base n at i j fills : ℕ) (w : List ℕ) (r : Outcome) : Type 0 where
-  pub comes : Comes (side w base n) (reverse (pushes exponents [] (flatMap (filled book cert w fills i j) (walked book s at .met)))) r
+  pub amounts : Amounts (side w base n) (reverse (pushes exponents [] (flatMap (filled book cert w fills i j) (walked book s at .met)))) r

@@ -1,4 +1,4 @@
--- A side that took a term's nodes holds its normal form, and what a second side comes to beside it settles whether their marks are the same.
+-- A side that took a term's nodes holds its normal form, and what a second side amounts to beside it settles whether their marks are the same.
 use Prim.Native.Nat.{ℕ}
 use mathlib.Core.Path.{_≡_, refl, sym, ap, _∙_}
 use mathlib.Core.List.{List, [], reverse}
@@ -18,7 +18,7 @@ use Rattle.patterns.proofs.Formed.{nodes-inj, formed-norm}
 use Rattle.table.specs.Nodes.{stack, side}
 use Rattle.table.specs.Sides.{Stacked, Pushes}
 use Rattle.table.specs.Marks.{markNodes, formNodes, Built}
-use Rattle.table.specs.Second.{Comes}
+use Rattle.table.specs.Second.{Amounts}
 use Rattle.table.specs.declared.Pushed.{Pushed}
 use Rattle.table.specs.declared.Pushed.the-variants.{Count, NoRoom}
 use Rattle.table.specs.declared.Outcome.the-variants.{Same, Other, Full}
@@ -78,23 +78,23 @@ module _ (ar : ℕ → ℕ) where
 
   -- a second side of the nodes of k beside the stored ones of m settles whether they are the same
   module _ (base n : ℕ) (m k : Mark Exp) (w : List ℕ) (p : OnMark (Formed ar) m) (q : OnMark (Formed ar) k) (x : Built base m w (Count n)) where
-    pub comes-same : Comes (side w base n) (formNodes k) Same → Met one (small k) × Met one (same m k)
-    unfolding Comes Met Built
-    comes-same c = (omega (arith, form-length k, c .0), marks-same m k p q (sym (x .1) ∙ c .1))
+    pub amounts-same : Amounts (side w base n) (formNodes k) Same → Met one (small k) × Met one (same m k)
+    unfolding Amounts Met Built
+    amounts-same c = (omega (arith, form-length k, c .0), marks-same m k p q (sym (x .1) ∙ c .1))
 
-    pub comes-other : Comes (side w base n) (formNodes k) Other → Met one (small k) × (¬ (Met one (same m k)))
-    unfolding Comes Met Built
-    comes-other c = (omega (arith, form-length k, c .0), λ e. c .1 (x .1 ∙ nodes-same m k e))
+    pub amounts-other : Amounts (side w base n) (formNodes k) Other → Met one (small k) × (¬ (Met one (same m k)))
+    unfolding Amounts Met Built
+    amounts-other c = (omega (arith, form-length k, c .0), λ e. c .1 (x .1 ∙ nodes-same m k e))
 
-pub comes-full : (stored : List (Node Exp)) (k : Mark Exp) → Comes stored (formNodes k) Full → ¬ (Met one (small k))
-unfolding Comes Met
-comes-full stored k c s = omega (arith, form-length k, c)
+pub amounts-full : (stored : List (Node Exp)) (k : Mark Exp) → Amounts stored (formNodes k) Full → ¬ (Met one (small k))
+unfolding Amounts Met
+amounts-full stored k c s = omega (arith, form-length k, c)
 
 -- the empty mark beside n stored nodes
-pub comes-none : (w : List ℕ) (base n : ℕ) → n ≡ 0 → Comes (side w base n) [] Same
-unfolding Comes side stack
-comes-none w base n e = (omega arith, ap (side w base) e)
+pub amounts-none : (w : List ℕ) (base n : ℕ) → n ≡ 0 → Amounts (side w base n) [] Same
+unfolding Amounts side stack
+amounts-none w base n e = (omega arith, ap (side w base) e)
 
-pub comes-some : (w : List ℕ) (base n : ℕ) → ¬ (n ≡ 0) → Comes (side w base n) [] Other
-unfolding Comes
-comes-some w base n d = (omega arith, λ e. d (sym (side-length w base n) ∙ ap length e))
+pub amounts-some : (w : List ℕ) (base n : ℕ) → ¬ (n ≡ 0) → Amounts (side w base n) [] Other
+unfolding Amounts
+amounts-some w base n d = (omega arith, λ e. d (sym (side-length w base n) ∙ ap length e))

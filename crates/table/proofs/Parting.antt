@@ -14,7 +14,7 @@ use Rattle.patterns.specs.First.{Exp}
 use Rattle.patterns.specs.Counters.{pair-path}
 use Rattle.table.specs.Nodes.{nodeOf, nodeAt, stack}
 use Rattle.table.specs.Answer.{Says}
-use Rattle.table.specs.Second.{Parts, none, before, alike, here, Counts, IsPower, CountsPower}
+use Rattle.table.specs.Second.{Parts, none, before, alike, here, PartsNext, IsPower, PowerPartsNext}
 use Rattle.table.proofs.Nodes.{code-other, no-power, pow-told}
 use Rattle.table.proofs.Answer.{says-true, says-false}
 
@@ -46,17 +46,17 @@ module _ {w : List ℕ} {base n : ℕ} where
 -- ---- one node more
 
 module _ {w : List ℕ} {base k p : ℕ} {m : Node Exp} where
-  pub counts-before : p ≤ k → Counts w base k p m p
-  counts-before l = record { told = λ n ns e x. before x (omega arith); low = omega arith }
+  pub next-before : p ≤ k → PartsNext w base k p m p
+  next-before l = record { told = λ n ns e x. before x (omega arith); low = omega arith }
 
-  counts-alike : k < p → nodeAt w (base + 3 * k) ≡ m → Counts w base k p m p
-  counts-alike l q = record {
+  next-alike : k < p → nodeAt w (base + 3 * k) ≡ m → PartsNext w base k p m p
+  next-alike l q = record {
     told = λ n ns e x. alike x (omega arith) (subst (λ i. nodeAt w (base + 3 * i) ≡ m) e q);
     low = omega arith;
   }
 
-  counts-here : k < p → nodeAt w (base + 3 * k) ≢ m → Counts w base k p m k
-  counts-here l q = record {
+  next-here : k < p → nodeAt w (base + 3 * k) ≢ m → PartsNext w base k p m k
+  next-here l q = record {
     told = λ n ns e x. here x (omega arith) (subst (λ i. nodeAt w (base + 3 * i) ≢ m) e q) e;
     low = omega arith;
   }
@@ -64,13 +64,13 @@ module _ {w : List ℕ} {base k p : ℕ} {m : Node Exp} where
 -- ---- a variable or a symbol, by its word alone
 
 module _ {w : List ℕ} {base k p code : ℕ} where
-  pub plain-alike : k < p → ¬ (code % 3 ≡ 2) → getD w (base + 3 * k) 0 ≡ code → Counts w base k p (nodeOf code 0 0) p
+  pub plain-alike : k < p → ¬ (code % 3 ≡ 2) → getD w (base + 3 * k) 0 ≡ code → PartsNext w base k p (nodeOf code 0 0) p
   unfolding nodeAt
-  plain-alike l h e = counts-alike l (rw e (no-power code _ _ 0 0 h))
+  plain-alike l h e = next-alike l (rw e (no-power code _ _ 0 0 h))
 
-  pub plain-here : k < p → ¬ (getD w (base + 3 * k) 0 ≡ code) → Counts w base k p (nodeOf code 0 0) k
+  pub plain-here : k < p → ¬ (getD w (base + 3 * k) 0 ≡ code) → PartsNext w base k p (nodeOf code 0 0) k
   unfolding nodeAt
-  plain-here l d = counts-here l (code-other _ _ _ _ _ _ d)
+  plain-here l d = next-here l (code-other _ _ _ _ _ _ d)
 
 -- ---- a power, by its three words
 
@@ -100,15 +100,15 @@ module _ (w : List ℕ) (at code a b : ℕ) where
         go s e (no g) = rw (ne-eqb _ _ g) (λ z. g (ap (λ (x : Exp). x .1) (numbers s e z)))
 
 module _ {w : List ℕ} {base k p code a b : ℕ} where
-  pub power-before : p ≤ k → CountsPower w base k p code a b p
-  power-before l = record { told = λ s e. counts-before l; low = omega arith }
+  pub power-before : p ≤ k → PowerPartsNext w base k p code a b p
+  power-before l = record { told = λ s e. next-before l; low = omega arith }
 
   module _ (l : k < p) {t : Bool} (x : IsPower w (base + 3 * k) code a b t) where
-    pub power-alike : t ≡ true → CountsPower w base k p code a b p
-    power-alike q = record { told = λ s e. counts-alike l (says-true t (x .told s e) q); low = omega arith }
+    pub power-alike : t ≡ true → PowerPartsNext w base k p code a b p
+    power-alike q = record { told = λ s e. next-alike l (says-true t (x .told s e) q); low = omega arith }
 
-    pub power-here : t ≡ false → CountsPower w base k p code a b k
-    power-here q = record { told = λ s e. counts-here l (says-false t (x .told s e) q); low = omega arith }
+    pub power-here : t ≡ false → PowerPartsNext w base k p code a b k
+    power-here q = record { told = λ s e. next-here l (says-false t (x .told s e) q); low = omega arith }
 
 -- ---- worked examples: f(s^{1,2}(x)) is stored, in nine words
 

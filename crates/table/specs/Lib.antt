@@ -1,4 +1,4 @@
--- What the words of the work table tell, what a push does to a side, and what a second side comes to beside it.
+-- What the words of the work table tell, what a push does to a side, and what a second side amounts to beside it.
 pub mod Places
 pub mod Nodes
 pub mod Sides

@@ -1,4 +1,4 @@
--- A second side that is held against the stored first: what its state tells of the nodes that have come, and what it comes to in the end.
+-- A second side that is held against the stored first: what its state tells of the nodes that have come, and what it amounts to in the end.
 use Prim.Native.Nat.{ℕ, _+_, _*_, _≤_, _<_}
 use mathlib.Core.Path.{_≡_}
 use mathlib.Core.Logic.{_≢_}
@@ -28,7 +28,7 @@ pub data Parts (w : List ℕ) (base n : ℕ) : List (Node Exp) → ℕ → Type 
       → Parts w base n (m ∷ ns) p
 
 -- r takes the place of p where m comes as number k
-pub record Counts (w : List ℕ) (base k p : ℕ) (m : Node Exp) (r : ℕ) : Type 0 where
+pub record PartsNext (w : List ℕ) (base k p : ℕ) (m : Node Exp) (r : ℕ) : Type 0 where
   pub told : (n : ℕ) (ns : List (Node Exp)) → k ≡ length ns → Parts w base n ns p → Parts w base n (m ∷ ns) r
   pub low : r ≤ p
 
@@ -38,27 +38,27 @@ pub record Counts (w : List ℕ) (base k p : ℕ) (m : Node Exp) (r : ℕ) : Typ
 pub record IsPower (w : List ℕ) (at code a b : ℕ) (r : Bool) : Type 0 where
   pub told : (s : ℕ) → code ≡ 3 * s + 2 → Says (nodeAt w at ≡ npow s (a, b)) r
 
-pub record CountsPower (w : List ℕ) (base k p code a b r : ℕ) : Type 0 where
-  pub told : (s : ℕ) → code ≡ 3 * s + 2 → Counts w base k p (npow s (a, b)) r
+pub record PowerPartsNext (w : List ℕ) (base k p code a b r : ℕ) : Type 0 where
+  pub told : (s : ℕ) → code ≡ 3 * s + 2 → PartsNext w base k p (npow s (a, b)) r
   pub low : r ≤ p
 
 -- ---- what the state tells
 
--- as many nodes as the stack has are settled
-pub record Counted (w : List ℕ) (base n : ℕ) (ns : List (Node Exp)) (h : Held) : Type 0 where
+-- as many nodes as the stack has are settled, and where they part
+pub record Tallied (w : List ℕ) (base n : ℕ) (ns : List (Node Exp)) (h : Held) : Type 0 where
   pub nodes : h .nodes ≡ length ns
   pub parts : Parts w base n ns (h .parts)
 
 -- the nodes that have come, merged, are those of a stack: all are settled, and a power that comes next is a node of its own; or all but a power on
 -- top, that waits for its like
-pub data Stands (w : List ℕ) (base n : ℕ) (h : Held) : List (Node Exp) → Type 0 where
-  rests : {ns : List (Node Exp)} → h .code ≡ 0 → ((s : ℕ) (e : Exp) → put exponents s e ns ≡ npow s e ∷ ns) → Counted w base n ns h
-      → Stands w base n h ns
-  waits : {ns ms : List (Node Exp)} (s : ℕ) → h .code ≡ 3 * s + 2 → ns ≡ npow s (h .a, h .b) ∷ ms → Counted w base n ms h → Stands w base n h ns
+pub data Tracks (w : List ℕ) (base n : ℕ) (h : Held) : List (Node Exp) → Type 0 where
+  rests : {ns : List (Node Exp)} → h .code ≡ 0 → ((s : ℕ) (e : Exp) → put exponents s e ns ≡ npow s e ∷ ns) → Tallied w base n ns h
+      → Tracks w base n h ns
+  waits : {ns ms : List (Node Exp)} (s : ℕ) → h .code ≡ 3 * s + 2 → ns ≡ npow s (h .a, h .b) ∷ ms → Tallied w base n ms h → Tracks w base n h ns
 
 -- no power waits any more
-pub record Settles (w : List ℕ) (base : ℕ) (h r : Held) : Type 0 where
-  pub told : (n : ℕ) (ns : List (Node Exp)) → Stands w base n h ns → Counted w base n ns r
+pub record AtRest (w : List ℕ) (base : ℕ) (h r : Held) : Type 0 where
+  pub told : (n : ℕ) (ns : List (Node Exp)) → Tracks w base n h ns → Tallied w base n ns r
   pub none : r .code ≡ 0
   pub low : r .parts ≤ h .parts
   pub few : r .nodes ≤ h .nodes + 1
@@ -66,23 +66,23 @@ pub record Settles (w : List ℕ) (base : ℕ) (h r : Held) : Type 0 where
 
 -- the nodes ms have come, one after the other
 pub record Came (w : List ℕ) (base : ℕ) (ms : List (Node Exp)) (h r : Held) : Type 0 where
-  pub told : (n : ℕ) (ns : List (Node Exp)) → Stands w base n h ns → Stands w base n r (pushes exponents ns ms)
+  pub told : (n : ℕ) (ns : List (Node Exp)) → Tracks w base n h ns → Tracks w base n r (pushes exponents ns ms)
   pub low : r .parts ≤ h .parts
   pub light : r .a + r .b ≤ h .a + h .b + load ms
 
 -- one node has come, and settled at most a power and itself
-pub record Holds (w : List ℕ) (base : ℕ) (m : Node Exp) (h r : Held) : Type 0 where
+pub record CameOne (w : List ℕ) (base : ℕ) (m : Node Exp) (h r : Held) : Type 0 where
   pub came : Came w base (m ∷ []) h r
   pub few : r .nodes ≤ h .nodes + 2
 
--- ---- what it comes to
+-- ---- what it amounts to
 
 -- 01: "A side whose normal form has more than 1,024 nodes is refused with 16"; or its nodes are those that are stored, or not
-unfoldable pub Comes : List (Node Exp) → List (Node Exp) → Outcome → Type 0
-Comes stored ms Same = (length ms ≤ NODES) × (stored ≡ ms)
-Comes stored ms Other = (length ms ≤ NODES) × (stored ≢ ms)
-Comes stored ms Full = NODES < length ms
+unfoldable pub Amounts : List (Node Exp) → List (Node Exp) → Outcome → Type 0
+Amounts stored ms Same = (length ms ≤ NODES) × (stored ≡ ms)
+Amounts stored ms Other = (length ms ≤ NODES) × (stored ≢ ms)
+Amounts stored ms Full = NODES < length ms
 
 -- no node is left
-pub record Ends (w : List ℕ) (base n : ℕ) (h : Held) (r : Outcome) : Type 0 where
-  pub told : (ns : List (Node Exp)) → Stands w base n h ns → Comes (side w base n) (reverse ns) r
+pub record Concludes (w : List ℕ) (base n : ℕ) (h : Held) (r : Outcome) : Type 0 where
+  pub told : (ns : List (Node Exp)) → Tracks w base n h ns → Amounts (side w base n) (reverse ns) r

@@ -60,7 +60,7 @@ pub struct Held {
     pub b: u64,
 }
 
-// What a second side comes to: the nodes that are stored, others, or more than 1,024.
+// What a second side amounts to: the nodes that are stored, others, or more than 1,024.
 pub enum Outcome {
     Same,
     Other,

@@ -11,7 +11,7 @@ ghost use lib.ListN.{length};
 ghost use Rattle.patterns.specs.Term.{npow};
 ghost use Rattle.table.specs.Nodes.{nodeOf, load};
 ghost use Rattle.table.specs.Sides.{node-told, Coded, Room};
-ghost use Rattle.table.specs.Second.{IsPower, Counts, CountsPower, Settles, Holds, Ends};
+ghost use Rattle.table.specs.Second.{IsPower, PartsNext, PowerPartsNext, AtRest, CameOne, Concludes};
 
 // Whether the node at a place is the power that three words tell.
 fn is_power(w: &[u64], p: usize, code: u64, a: u64, b: u64) -> bool
@@ -38,7 +38,7 @@ fn parts_by_power(
     b: u64,
 ) -> usize
     requires { ⌜ Room base parts (now w) ⌝ }
-    ensures { λ r. ⌜ CountsPower (now (w .entry)) base k parts code a b r ⌝ }
+    ensures { λ r. ⌜ PowerPartsNext (now (w .entry)) base k parts code a b r ⌝ }
 {
     if k >= parts {
         return parts;
@@ -53,7 +53,7 @@ fn parts_by_power(
 fn parts_by_plain(w: &[u64], base: usize, k: usize, parts: usize, code: u64) -> usize
     requires { ⌜ Room base parts (now w) ⌝ }
     requires { ⌜ ¬ (code % 3 ≡ 2) ⌝ }
-    ensures { λ r. ⌜ Counts (now (w .entry)) base k parts (nodeOf code 0 0) r ⌝ }
+    ensures { λ r. ⌜ PartsNext (now (w .entry)) base k parts (nodeOf code 0 0) r ⌝ }
 {
     if k >= parts {
         return parts;
@@ -68,7 +68,7 @@ fn parts_by_plain(w: &[u64], base: usize, k: usize, parts: usize, code: u64) -> 
 fn settle(w: &[u64], base: usize, h: Held) -> Held
     requires { ⌜ Room base (h .parts) (now w) ⌝ }
     requires { ⌜ h .nodes ≤ 2 ^ 32 ⌝ }
-    ensures { λ r. ⌜ Settles (now (w .entry)) base h r ⌝ }
+    ensures { λ r. ⌜ AtRest (now (w .entry)) base h r ⌝ }
 {
     if h.code == 0 {
         return h;
@@ -86,7 +86,7 @@ fn settle(w: &[u64], base: usize, h: Held) -> Held
 fn hold_plain(w: &[u64], base: usize, h: Held, code: u64) -> Held
     requires { ⌜ Room base (h .parts) (now w) ⌝ }
     requires { ⌜ (h .nodes ≤ 2 ^ 32) × (¬ (code % 3 ≡ 2)) ⌝ }
-    ensures { λ r. ⌜ Holds (now (w .entry)) base (nodeOf code 0 0) h r ⌝ }
+    ensures { λ r. ⌜ CameOne (now (w .entry)) base (nodeOf code 0 0) h r ⌝ }
 {
     let k = settle(w, base, h);
     Held {
@@ -102,7 +102,7 @@ fn hold_plain(w: &[u64], base: usize, h: Held, code: u64) -> Held
 fn hold_power(w: &[u64], base: usize, h: Held, s: u16, a: u64, b: u64) -> Held
     requires { ⌜ Room base (h .parts) (now w) ⌝ }
     requires { ⌜ (h .nodes ≤ 2 ^ 32) × (h .a + h .b + (a + b) < 2 ^ 64) ⌝ }
-    ensures { λ r. ⌜ Holds (now (w .entry)) base (npow s (a, b)) h r ⌝ }
+    ensures { λ r. ⌜ CameOne (now (w .entry)) base (npow s (a, b)) h r ⌝ }
 {
     if a + b == 0 {
         return h;
@@ -131,7 +131,7 @@ fn hold_power(w: &[u64], base: usize, h: Held, s: u16, a: u64, b: u64) -> Held
 pub fn hold(w: &[u64], base: usize, h: Held, node: Item) -> Held
     requires { ⌜ Room base (h .parts) (now w) ⌝ }
     requires { ⌜ (h .nodes ≤ 2 ^ 32) × (h .a + h .b + load (node-told node ∷ []) < 2 ^ 64) × Coded node ⌝ }
-    ensures { λ r. ⌜ Holds (now (w .entry)) base (node-told node) h r ⌝ }
+    ensures { λ r. ⌜ CameOne (now (w .entry)) base (node-told node) h r ⌝ }
 {
     match node {
         Item::Plain(code) => hold_plain(w, base, h, code),
@@ -139,11 +139,11 @@ pub fn hold(w: &[u64], base: usize, h: Held, node: Item) -> Held
     }
 }
 
-// What a second side comes to of which no node is left, beside the n nodes that are stored.
+// What a second side amounts to of which no node is left, beside the n nodes that are stored.
 pub fn outcome(w: &[u64], base: usize, n: usize, h: Held) -> Outcome
     requires { ⌜ Room base (h .parts) (now w) ⌝ }
     requires { ⌜ h .nodes ≤ 2 ^ 32 ⌝ }
-    ensures { λ r. ⌜ Ends (now (w .entry)) base n h r ⌝ }
+    ensures { λ r. ⌜ Concludes (now (w .entry)) base n h r ⌝ }
 {
     let all = settle(w, base, h);
     if all.nodes > NODES {

@@ -1,12 +1,12 @@
 -- `table::second::parts_by_plain` meets its contract: as for a power, by one word.
 use native.Mathlib.Omega.{arith}
-use Rattle.table.proofs.Parting.{counts-before, plain-alike, plain-here}
+use Rattle.table.proofs.Parting.{next-before, plain-alike, plain-here}
 use borrow.Author.Needs.{needs}
 use Rattle.table.proofs.second.parts_by_plain.Statement.{statement}
 use Rattle.table.proofs.second.parts_by_plain.Tie as tie
 
 returns : tie.Need-returns
-returns c = counts-before (omega arith)
+returns c = next-before (omega arith)
 
 returns-2 : tie.Need-returns-2
 returns-2 c = plain-alike (omega arith) (c .before .before .before .pre .1) (c .if2 .taken)
