@@ -12,10 +12,10 @@ returns-2 : tie.Need-returns-2
 returns-2 c = concludes-count (c .before .before .before .before .settle .ensures) (omega arith) (λ e. omega arith)
 
 returns-3 : tie.Need-returns-3
-returns-3 c = concludes-parted (c .before .before .before .before .before .before .settle .ensures) (omega arith) (omega arith) (c .if3 .taken)
+returns-3 c = concludes-parted (c .before .before .before .before .before .before .settle .ensures) (omega arith) (omega arith) (λ e. omega arith)
 
 returns-4 : tie.Need-returns-4
-returns-4 c = concludes-same (c .before .before .before .before .before .before .settle .ensures) (omega arith) (omega arith) (c .if3 .left)
+returns-4 c = concludes-same (c .before .before .before .before .before .before .settle .ensures) (omega arith) (omega arith) (omega arith)
 
 pub outcome-spec : {M : Type 1} → statement M
 outcome-spec =
