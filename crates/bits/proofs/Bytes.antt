@@ -82,7 +82,7 @@ bit-drop n s i = bit-by-byte (drop n s) s i (8 * n + i) (getD-drop n s (i / 8) 0
     place = omega arith
 
 -- a byte is the number that its bits spell
-byte-of-bits : (s : List ℕ) (k : ℕ) → byteAt s k < 256 → bitsAt s (8 * k) 8 ≡ byteAt s k
+pub byte-of-bits : (s : List ℕ) (k : ℕ) → byteAt s k < 256 → bitsAt s (8 * k) 8 ≡ byteAt s k
 unfolding bitAt
 byte-of-bits s k h = bits-of s (8 * k) 8 (byteAt s k) (λ j l. each j l) ∙ mod-eq-of-lt h
   where

@@ -8,6 +8,7 @@ pub mod OnlyPacked
 pub mod Puts
 pub mod InOrder
 pub mod Windows
+pub mod Views
 pub mod Weaving
 pub mod Shifts
 pub mod Stores

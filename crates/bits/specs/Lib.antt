@@ -4,3 +4,4 @@ pub mod Packed
 pub mod Put
 pub mod Written
 pub mod Window
+pub mod View

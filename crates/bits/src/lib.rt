@@ -1,10 +1,11 @@
 // A bit cursor by value over bytes, most significant bit first: takes fields out of bytes, and puts fields into them.
 ghost use mathlib.Core.Path.{_≡_};
-ghost use Prim.Native.Nat.{_%_, _^_, _≤_, _<_};
-ghost use lib.ListN.{set};
-ghost use Rattle.bits.specs.Bits.{byteAt, roomOf, fits, readField};
+ghost use Prim.Native.Nat.{_+_, _*_, _%_, _^_, _≤_, _<_};
+ghost use lib.ListN.{length, set};
+ghost use Rattle.bits.specs.Bits.{byteAt, bitsAt, roomOf, fits, readField};
 ghost use Rattle.bits.specs.Put.{placeAfter, putField};
 ghost use Rattle.bits.specs.Window.{windowAt, withWindow, woven};
+ghost use Rattle.bits.specs.View.{Views};
 
 // Where the next field begins, counted in bits from the first bit.
 pub struct Cursor {
@@ -46,11 +47,19 @@ fn has_room(s: &[u8], w: usize, at: usize) -> bool
     true
 }
 
+// The byte at a place that is there.
+fn byte(s: &[u8], i: usize) -> u64
+    requires { ⌜ i < length (now s) ⌝ }
+    ensures { λ r. ⌜ (r ≡ byteAt (now (s .entry)) i) × (r < 256) ⌝ }
+{
+    s[i] as u64
+}
+
 // The byte at a place, 0 past the end.
 fn byte_at(s: &[u8], i: usize) -> u64
     ensures { λ r. ⌜ (r ≡ byteAt (now (s .entry)) i) × (r < 256) ⌝ }
 {
-    if i < s.len() { s[i] as u64 } else { 0 }
+    if i < s.len() { byte(s, i) } else { 0 }
 }
 
 // The three bytes from a place on, as one number.
@@ -59,6 +68,68 @@ fn window(s: &[u8], k: usize) -> u64
     ensures { λ r. ⌜ (r ≡ windowAt (now (s .entry)) k) × (r < 2 ^ 24) ⌝ }
 {
     byte_at(s, k) * 65536 + byte_at(s, k + 1) * 256 + byte_at(s, k + 2)
+}
+
+// The four bytes from a place on, as one number. Two such are two loads; eight bytes in one sum would be eight.
+fn half(s: &[u8], k: usize) -> u64
+    requires { ⌜ k + 4 ≤ length (now s) ⌝ }
+    ensures { λ r. ⌜ r ≡ bitsAt (now (s .entry)) (8 * k) 32 ⌝ }
+{
+    (byte(s, k) << 24) + (byte(s, k + 1) << 16) + (byte(s, k + 2) << 8) + byte(s, k + 3)
+}
+
+// The eight bytes from a place on, as one number.
+fn word(s: &[u8], k: usize) -> u64
+    requires { ⌜ k + 8 ≤ length (now s) ⌝ }
+    ensures { λ r. ⌜ r ≡ bitsAt (now (s .entry)) (8 * k) 64 ⌝ }
+{
+    (half(s, k) << 32) + half(s, k + 4)
+}
+
+// The last eight bytes without those before a place, and zeros behind them.
+fn last_word(s: &[u8], k: usize) -> u64
+    requires { ⌜ (8 ≤ length (now s)) × (length (now s) < k + 8) × (k < length (now s)) ⌝ }
+    ensures { λ r. ⌜ r ≡ bitsAt (now (s .entry)) (8 * k) 64 ⌝ }
+{
+    let end = s.len();
+    word(s, end - 8) << (8 * (k + 8 - end))
+}
+
+// The n bytes from a place on, as one number, zeros past the end. Since it calls itself, the compiler leaves it out of line: it serves the
+// last bytes of a file.
+fn ending(s: &[u8], k: usize, n: usize) -> u64
+    requires { ⌜ (n ≤ 8) × (k ≤ 2 ^ 61) ⌝ }
+    ensures { λ r. ⌜ r ≡ bitsAt (now (s .entry)) (8 * k) (8 * n) ⌝ }
+{
+    if n == 0 {
+        return 0;
+    }
+    if n == 8 {
+        if s.len() >= 8 {
+            if k >= s.len() {
+                return 0;
+            }
+            if k + 8 > s.len() {
+                return last_word(s, k);
+            }
+        }
+    }
+    (ending(s, k, n - 1) << 8) + byte_at(s, k + n - 1)
+}
+
+// The 64 bits from a bit on, zeros past the end; the last eight may be missing. That the word is tested as a whole keeps its load whole; all
+// ones are read once more, byte by byte.
+pub fn view(s: &[u8], at: usize) -> u64
+    ensures { λ r. ⌜ Views (now (s .entry)) at r ⌝ }
+{
+    let k = at / 8;
+    if k + 8 <= s.len() {
+        let x = word(s, k);
+        if x != 18446744073709551615 {
+            return x << (at % 8);
+        }
+    }
+    ending(s, k, 8) << (at % 8)
 }
 
 // The low byte of x stored at a place, if there is one.
