@@ -1,5 +1,6 @@
 -- The arity of a symbol, looked up where the book stands: in its bytes, or in its list of fields.
-use Prim.Native.Nat.{ℕ, _+_, _*_}
+use Prim.Native.Nat.{ℕ, _+_, _*_, _/_, _%_}
+use mathlib.Core.Path.{_≡_}
 use mathlib.Core.List.{List}
 use mathlib.Core.Bool.{Bool, cond}
 use lib.Dec.{ltb}
@@ -16,3 +17,8 @@ unfoldable pub arityAt : List ℕ → List ℕ → Bool → ℕ → ℕ
 arityAt s l listed f =
     cond (ltb f (numberAt s l 8 (start listed) 0))
     (numberAt s l 4 (record { bit = 8 + 4 * f; n = 1 + f; listed = listed }) 16) 16
+
+-- the half of a byte that n chooses: the upper one if it is even
+pub record NibbleOf (byte n r : ℕ) : Type 0 where
+  pub even : n % 2 ≡ 0 → r ≡ byte / 16
+  pub odd : n % 2 ≡ 1 → r ≡ byte % 16

@@ -7,9 +7,10 @@ use fields::Walker;
 ghost use mathlib.Core.Path.{_≡_};
 ghost use Prim.Native.Nat.{ℕ, _≤_};
 ghost use mathlib.Core.Bool.{false};
+ghost use mathlib.Core.List.{[]};
 ghost use Rattle.fields.specs.Source.{source};
 ghost use Rattle.fields.specs.Run.{Ran};
-ghost use Rattle.terms.specs.Arity.{numberAt, arityAt};
+ghost use Rattle.terms.specs.Arity.{numberAt, arityAt, NibbleOf};
 ghost use Rattle.grammar.specs.Terms.{an-applied, a-raised, a-term, args-of, any-term, root-term, call-term, a-pair, pairs-of, a-filling};
 ghost use Rattle.terms.specs.Values.{leftOf, leftOfAll, firstOf, nothing};
 
@@ -44,6 +45,34 @@ pub fn arity(book: &[u8], l: &[u16], listed: bool, f: u16) -> u16
         listed,
     };
     number(book, l, 4, own, 16)
+}
+
+// The upper half of a byte, or the lower one where n is odd.
+fn nibble(byte: u8, n: u16) -> u16
+    ensures { λ r. ⌜ NibbleOf byte n r ⌝ }
+{
+    if n % 2 == 0 {
+        byte as u16 / 16
+    } else {
+        byte as u16 % 16
+    }
+}
+
+// The arity of a symbol of a packed book, 16 where there is no such symbol: its count is the first byte, and each arity half a byte.
+pub fn arity_of(book: &[u8], f: u16) -> u16
+    ensures { λ r. ⌜ r ≡ arityAt (now (book .entry)) [] false f ⌝ }
+{
+    if book.len() == 0 {
+        return 16;
+    }
+    if f >= book[0] as u16 {
+        return 16;
+    }
+    let k = 1 + f as usize / 2;
+    if k >= book.len() {
+        return 16;
+    }
+    nibble(book[k], f)
 }
 
 // The term at a walker, of at most `left` nodes: the nodes still allowed behind it.

@@ -1,7 +1,7 @@
 -- `bits::view` meets its contract: eight bytes, shifted so far that the bit asked for comes first.
 use borrow.Author.Needs.{needs}
-use mathlib.Core.Path.{sym, ap, subst}
-use Prim.Native.Nat.{ℕ, _/_, _*_, _%_, _^_}
+use mathlib.Core.Path.{sym, subst}
+use Prim.Native.Nat.{ℕ, _*_, _%_, _^_}
 use denote.Ref.{now}
 use Rattle.bits.specs.View.{Views}
 use Rattle.bits.proofs.Views.{viewed}
