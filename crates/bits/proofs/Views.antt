@@ -3,10 +3,10 @@ use mathlib.Core.Path.{_≡_, sym, ap, ap₂, subst, _∙_}
 use mathlib.Core.List.{List}
 use mathlib.Core.Logic.{⊎-elim}
 use Prim.Native.Nat.{ℕ, zero, suc, _+_, _-_, _*_, _/_, _%_, _^_, _≤_, _<_}
-use native.Mathlib.Nat.{mod-mod, mul-assoc, pow-suc}
+use native.Mathlib.Nat.{mod-mod, mul-assoc, suc-mul, pow-suc}
 use native.Mathlib.Omega.{arith}
 use lib.ListN.{length}
-use lib.Pow.{pow-add, shl-shr, shr-shr, shl-exact}
+use lib.Pow.{pow-add, pow-pos, shl-shr, shr-shr, shl-exact, high, ones-lt}
 use Rattle.bits.specs.Bits.{byteAt, Bytes, bitAt, spelled, bitsAt}
 use Rattle.bits.specs.View.{Views}
 use Rattle.bits.proofs.Numbers.{lt-or-ge, same-low}
@@ -121,6 +121,35 @@ shifted-in y p m h =
     even : (n : ℕ) → n * 2 % 2 ≡ 0
     even n = omega arith
 
+-- each bit of 2 ^ 64 - 1 is 1
+one-bit : (m : ℕ) → m < 64 → 18446744073709551615 / 2 ^ m % 2 ≡ 1
+one-bit m h =
+    ap (λ (n : ℕ). n / 2 ^ m % 2) whole
+    ∙ ap (λ (n : ℕ). n % 2) (high (2 ^ (64 - m) - 1) m (ones-lt m))
+    ∙ odd
+  where
+    together : 64 - m + m ≡ 64
+    together = omega arith
+
+    wide : 2 ^ (64 - m) * 2 ^ m ≡ 18446744073709551616
+    wide = sym (pow-add 2 (64 - m) m) ∙ ap (λ (n : ℕ). 2 ^ n) together
+
+    less : (a b : ℕ) → 1 ≤ a → (a - 1) * b + b ≡ a * b
+    less (suc a) b l = ap (λ (n : ℕ). n * b + b) one-down ∙ sym (suc-mul a b)
+      where
+        one-down : suc a - 1 ≡ a
+        one-down = omega arith
+    less zero b l = absurd (omega arith)
+
+    whole : 18446744073709551615 ≡ (2 ^ (64 - m) - 1) * 2 ^ m + (2 ^ m - 1)
+    whole = omega (arith, wide, less (2 ^ (64 - m)) (2 ^ m) (pow-pos (64 - m)), pow-pos m)
+
+    up : 64 - m ≡ suc (63 - m)
+    up = omega arith
+
+    odd : (2 ^ (64 - m) - 1) % 2 ≡ 1
+    odd = omega (arith, ap (λ (n : ℕ). 2 ^ n) up, pow-suc 2 (63 - m), pow-pos (63 - m))
+
 module _ (s : List ℕ) where
   -- the eight bytes from k on, of which the last d lie past the end, are the last eight shifted
   pub past-shifted : (k d : ℕ) → 8 ≤ length s → k + 8 ≡ length s + d → d ≤ 8
@@ -180,3 +209,22 @@ module _ (s : List ℕ) where
 
               lower : 64 - suc (at % 8 + (o + j)) ≡ 64 - o - w + (w - suc j) - at % 8
               lower = omega arith
+
+  -- where all are ones, nothing need be shifted
+  pub ones-viewed : (at : ℕ) → 18446744073709551615 ≡ bitsAt s (8 * (at / 8)) 64 → Views s at 18446744073709551615
+  ones-viewed at e = record { field = here }
+    where
+      here : (o w : ℕ) → o + w ≤ 56 → 18446744073709551615 / 2 ^ (64 - o - w) % 2 ^ w ≡ bitsAt s (at + o) w
+      here o w h = sym (bits-of s (at + o) w (18446744073709551615 / 2 ^ (64 - o - w)) each)
+        where
+          each : (j : ℕ) → j < w → bitAt s (at + o + j) ≡ 18446744073709551615 / 2 ^ (64 - o - w) / 2 ^ (w - suc j) % 2
+          each j l =
+              ap (λ (i : ℕ). bitAt s i) place
+              ∙ sym (bit-of-bits s (8 * (at / 8)) 64 (at % 8 + (o + j)) (omega arith))
+              ∙ ap (λ (n : ℕ). n / 2 ^ (64 - suc (at % 8 + (o + j))) % 2) (sym e)
+              ∙ one-bit (64 - suc (at % 8 + (o + j))) (omega arith)
+              ∙ sym (one-bit (64 - o - w + (w - suc j)) (omega arith))
+              ∙ ap (λ (n : ℕ). n % 2) (sym (shr-shr 18446744073709551615 (64 - o - w) (w - suc j)))
+            where
+              place : at + o + j ≡ 8 * (at / 8) + (at % 8 + (o + j))
+              place = omega arith

@@ -20,7 +20,7 @@ pub enum Taken {
 }
 
 // How many bits there are, counted up to 2 ^ 32.
-fn room(s: &[u8]) -> usize
+pub fn room(s: &[u8]) -> usize
     ensures { λ r. ⌜ r ≡ roomOf (now (s .entry)) ⌝ }
 {
     if s.len() < 536870912 {
@@ -117,17 +117,17 @@ fn ending(s: &[u8], k: usize, n: usize) -> u64
     (ending(s, k, n - 1) << 8) + byte_at(s, k + n - 1)
 }
 
-// The 64 bits from a bit on, zeros past the end; the last eight may be missing. That the word is tested as a whole keeps its load whole; all
-// ones are read once more, byte by byte.
+// The 64 bits from a bit on, zeros past the end; the last eight may be others. That the word is tested as a whole keeps its load whole.
 pub fn view(s: &[u8], at: usize) -> u64
     ensures { λ r. ⌜ Views (now (s .entry)) at r ⌝ }
 {
     let k = at / 8;
     if k + 8 <= s.len() {
         let x = word(s, k);
-        if x != 18446744073709551615 {
-            return x << (at % 8);
+        if x == 18446744073709551615 {
+            return x;
         }
+        return x << (at % 8);
     }
     ending(s, k, 8) << (at % 8)
 }
