@@ -23,14 +23,12 @@ use Rattle.table.proofs.Loads.{load-append, load-push, load-pushes}
 use Rattle.table.proofs.Holding.{held-none, tracks-many, came-none, came-then, came-as}
 use Rattle.instances.specs.Lying.{TermAt}
 use Rattle.instances.specs.Fillings.{FillsTold}
-use Rattle.instances.specs.Walks.{single, first-stand, walk, Turns, walked}
+use Rattle.instances.specs.Walks.{single, first-stand, walk, Ended, walked}
 use Rattle.instances.specs.Filled.{ComesAs, itself, wordOf, filled}
 use Rattle.instances.specs.Instances.{Against}
 use Rattle.instances.specs.declared.Header.{Header}
 use Rattle.instances.specs.declared.Stand.{Stand}
-use Rattle.instances.specs.declared.Turn.{Turn}
-use Rattle.instances.specs.declared.Turn.the-variants.{Node as Met, Over}
-use Rattle.instances.proofs.Goings.{Going, going-start, going-on}
+use Rattle.instances.proofs.Goings.{Meets, Going, going-start, going-on}
 use Rattle.instances.proofs.Loads.{flatMap-append, each-itself, filled-light}
 use Rattle.instances.proofs.Givings.{given, given-rest, given-over}
 use Rattle.instances.proofs.Pushings.{plain, light-given}
@@ -78,13 +76,12 @@ module _ (f : Node Exp → List (Node Exp)) {book s : List ℕ} {at : ℕ} {w : 
   coming-light b y =
       omega (arith, g .holds .light, ap load (given-rest f g), load-append (flatMap f (g .met)) (flatMap f (walk book s left p .met)))
 
-  module _ {r : Turn} (k : Turns book s left p r) where
-    pub coming-over : r ≡ Over → Came w base (given f book s at) h₀ h
-    coming-over e = came-as (given-over f g k e) (g .holds)
+  pub coming-over : Ended left (p .pending) → Came w base (given f book s at) h₀ h
+  coming-over e = came-as (given-over f g e) (g .holds)
 
-    pub coming-on : {header : Header} {q : Stand} → r ≡ Met header q → {v : Held} → Came w base (flatMap f (single header)) h v
-        → Coming f book s at w base h₀ v (left - 1) q
-    coming-on {header} e t = going-on g k e (came-as (sym (flatMap-append f (g .met) (single header))) (came-then (g .holds) t))
+  pub coming-on : {header : Header} {q : Stand} → Meets book s left p header q → {v : Held} → Came w base (flatMap f (single header)) h v
+      → Coming f book s at w base h₀ v (left - 1) q
+  coming-on {header} m t = going-on g m (came-as (sym (flatMap-append f (g .met) (single header))) (came-then (g .holds) t))
 
 -- ---- the term of a filling
 
@@ -126,8 +123,8 @@ module _ (book s cert w : List ℕ) (at fills i j base n : ℕ) {h : Held} {left
     (few, omega (arith, coming-light (filled book cert w fills i j) g (2 ^ 38) (filled-light book cert w fills i j small-i small-j s at)), low),
   )
 
-  pub against-over : {r : Turn} {o : Outcome} → Turns book s left p r → r ≡ Over → Concludes w base n h o → Against book s cert base n at i j fills w o
-  against-over k e x = record { amounts = x .told _ (coming-over (filled book cert w fills i j) g k e .told n [] (held-none w base n)) }
+  pub against-over : {o : Outcome} → Ended left (p .pending) → Concludes w base n h o → Against book s cert base n at i j fills w o
+  against-over e x = record { amounts = x .told _ (coming-over (filled book cert w fills i j) g e .told n [] (held-none w base n)) }
 
   pub against-full : NODES < h .nodes → Against book s cert base n at i j fills w Full
   unfolding Amounts

@@ -4,12 +4,10 @@ use mathlib.Core.Path.{_≡_, sym, ap, _∙_}
 use mathlib.Core.List.{List, _++_, flatMap}
 use Rattle.patterns.specs.Term.{Node}
 use Rattle.patterns.specs.First.{Exp}
-use Rattle.instances.specs.Walks.{single, Passage, walk, Turns, walked}
+use Rattle.instances.specs.Walks.{single, Passage, walk, Ended, walked}
 use Rattle.instances.specs.declared.Header.{Header}
 use Rattle.instances.specs.declared.Stand.{Stand}
-use Rattle.instances.specs.declared.Turn.{Turn}
-use Rattle.instances.specs.declared.Turn.the-variants.{Node as Met, Over}
-use Rattle.instances.proofs.Goings.{Going, going-over, going-more}
+use Rattle.instances.proofs.Goings.{Meets, Going, going-over, going-more}
 use Rattle.instances.proofs.Loads.{flatMap-append}
 
 -- what the whole walk gives
@@ -24,11 +22,9 @@ module _ {P : List (Node Exp) → Type 0} {book s : List ℕ} {at left : ℕ} {p
   pub given-rest : flatMap f (g .met) ++ flatMap f (walk book s left p .met) ≡ given f book s at
   given-rest = sym (flatMap-append f (g .met) (walk book s left p .met)) ∙ met-of _ (g .whole)
 
-  module _ {r : Turn} (k : Turns book s left p r) where
-    pub given-over : r ≡ Over → flatMap f (g .met) ≡ given f book s at
-    given-over e = met-of _ (going-over g k e)
+  pub given-over : Ended left (p .pending) → flatMap f (g .met) ≡ given f book s at
+  given-over e = met-of _ (going-over g e)
 
-    module _ {h : Header} {q : Stand} (e : r ≡ Met h q) where
-      -- with the next node
-      pub given-more : flatMap f (g .met ++ single h) ++ flatMap f (walk book s (left - 1) q .met) ≡ given f book s at
-      given-more = sym (flatMap-append f (g .met ++ single h) _) ∙ met-of _ (going-more g k e)
+  -- with the next node
+  pub given-more : {h : Header} {q : Stand} → Meets book s left p h q → flatMap f (g .met ++ single h) ++ flatMap f (walk book s (left - 1) q .met) ≡ given f book s at
+  given-more {h} m = sym (flatMap-append f (g .met ++ single h) _) ∙ met-of _ (going-more g m)

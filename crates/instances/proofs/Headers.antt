@@ -1,20 +1,21 @@
--- The header that is found where the fields of a node lie; what its functions answer; and that its numbers are small.
-use Prim.Native.Nat.{ℕ, _+_, _<_, _^_}
-use mathlib.Core.Path.{_≡_, refl, sym, subst, ap, _∙_}
+-- The header that is found where the fields of a node lie; the one that is taken out of a view; and that its numbers are small.
+use Prim.Native.Nat.{ℕ, _+_, _/_, _%_, _≤_, _<_, _^_}
+use mathlib.Core.Path.{_≡_, refl, sym, subst, ap, ap₂, _∙_}
+use mathlib.Core.Logic.{⊎-elim}
 use mathlib.Core.List.{List, _∷_}
 use mathlib.Core.Bool.{Bool, true, false, cond}
 use native.Mathlib.Omega.{arith}
 use lib.Dec.{eqb}
-use borrow.Author.Tests.{eq-eqb, ne-eqb}
-use Rattle.bits.specs.Bits.{readField}
+use borrow.Author.Tests.{ne-eqb}
+use Rattle.bits.specs.Bits.{bitsAt, roomOf, readField}
+use Rattle.bits.specs.View.{Views}
 use Rattle.bits.specs.declared.Cursor.{Cursor}
 use Rattle.bits.specs.declared.Taken.{Taken}
 use Rattle.bits.specs.declared.Taken.the-variants.{Got, Past}
-use Rattle.bits.proofs.Fitting.{read-got}
+use Rattle.bits.proofs.Fitting.{read-yes, read-past, read-got}
+use Rattle.bits.proofs.Numbers.{lt-or-ge}
 use Rattle.bits.proofs.Bytes.{bits-lt}
 use Rattle.grammar.specs.Listing.{Fields}
-use Rattle.terms.specs.Arity.{arityAt}
-use Rattle.terms.proofs.Arities.{in-bytes-only}
 use Rattle.instances.specs.Lying.{Lies, arities}
 use Rattle.instances.specs.Headers.{on-taken, variableAt, symbolAt, powerAt, byTag, headerAt}
 use Rattle.instances.specs.Walks.{Named}
@@ -48,68 +49,99 @@ module _ (book s : List ℕ) (at : ℕ) where
         lies-first s (at + 2 + 8 + 12) 12 b _ (omega arith) l₃,
       )
 
--- ---- what the functions answer, each read r with what it is and what was found
+-- ---- what is taken out of a view
 
-module _ (s : List ℕ) (at : ℕ) (r : Taken) where
-  pub variable-got : (x : ℕ) (c : Cursor) → r ≡ readField s 6 at → r ≡ Got x c → Variable x c ≡ variableAt s at
-  unfolding variableAt on-taken
-  variable-got x c e g = rw (sym e ∙ g)
-
-  pub variable-past : r ≡ readField s 6 at → r ≡ Past → Missing ≡ variableAt s at
-  unfolding variableAt on-taken
-  variable-past e g = rw (sym e ∙ g)
-
-  pub symbol-got : (book l : List ℕ) (f n : ℕ) (c : Cursor) → r ≡ readField s 8 at → r ≡ Got f c → n ≡ arityAt book l false f
-      → Symbol f n c ≡ symbolAt book s at
-  unfolding symbolAt on-taken
-  symbol-got book l f n c e g q = rw (sym e ∙ g) (ap (λ k. Symbol f k c) (q ∙ in-bytes-only book l f))
-
-  pub symbol-past : (book : List ℕ) → r ≡ readField s 8 at → r ≡ Past → Missing ≡ symbolAt book s at
-  unfolding symbolAt on-taken
-  symbol-past book e g = rw (sym e ∙ g)
-
-  pub power-past : r ≡ readField s 8 at → r ≡ Past → Missing ≡ powerAt s at
-  unfolding powerAt on-taken
-  power-past e g = rw (sym e ∙ g)
-
-  module _ (f : ℕ) (c : Cursor) (r₁ : Taken) (e : r ≡ readField s 8 at) (g : r ≡ Got f c) where
-    pub power-past-a : r₁ ≡ readField s 12 (c .at) → r₁ ≡ Past → Missing ≡ powerAt s at
-    unfolding powerAt on-taken
-    power-past-a e₁ g₁ = rw (sym e ∙ g, sym e₁ ∙ g₁)
-
-    module _ (a : ℕ) (d : Cursor) (r₂ : Taken) (e₁ : r₁ ≡ readField s 12 (c .at)) (g₁ : r₁ ≡ Got a d) where
-      pub power-past-b : r₂ ≡ readField s 12 (d .at) → r₂ ≡ Past → Missing ≡ powerAt s at
-      unfolding powerAt on-taken
-      power-past-b e₂ g₂ = rw (sym e ∙ g, sym e₁ ∙ g₁, sym e₂ ∙ g₂)
-
-      pub power-got : (b : ℕ) (i : Cursor) → r₂ ≡ readField s 12 (d .at) → r₂ ≡ Got b i → Power f a b i ≡ powerAt s at
-      unfolding powerAt on-taken
-      power-got b i e₂ g₂ = rw (sym e ∙ g, sym e₁ ∙ g₁, sym e₂ ∙ g₂)
-
-  pub header-past : (book : List ℕ) → r ≡ readField s 2 at → r ≡ Past → Missing ≡ headerAt book s at
+module _ (book s : List ℕ) (x at room : ℕ) (v : Views s at x) (e : room ≡ roomOf s) where
+  tagged : (tag : ℕ) → x / 2 ^ 62 % 4 ≡ tag → at + 2 ≤ room → headerAt book s at ≡ byTag book s tag (at + 2)
   unfolding headerAt on-taken
-  header-past book e g = rw (sym e ∙ g)
+  tagged tag t h =
+      rw (read-yes s 2 at (omega arith) (omega (arith, e)))
+      (ap (λ (n : ℕ). byTag book s n (at + 2)) (sym (v .field 0 2 (omega arith) ∙ ap (λ (n : ℕ). bitsAt s n 2) nought) ∙ t))
+    where
+      nought : at + 0 ≡ at
+      nought = omega arith
 
-  module _ (book : List ℕ) (tag : ℕ) (c : Cursor) (e : r ≡ readField s 2 at) (g : r ≡ Got tag c) where
-    tagged : byTag book s tag (c .at) ≡ headerAt book s at
-    unfolding headerAt on-taken
-    tagged = rw (sym e ∙ g)
+  no-tag : room < at + 2 → Missing ≡ headerAt book s at
+  unfolding headerAt on-taken
+  no-tag h = rw (read-past s 2 at (omega (arith, e))) refl
 
-    pub header-variable : (h : Header) → tag ≡ 0 → h ≡ variableAt s (c .at) → h ≡ headerAt book s at
-    unfolding byTag
-    header-variable h t q = q ∙ rw (eq-eqb tag 0 t) at tagged
+  -- what has no tag, or has one whose fields are not all there
+  short : (tag n : ℕ) → x / 2 ^ 62 % 4 ≡ tag → room < at + n → (at + 2 ≤ room → byTag book s tag (at + 2) ≡ Missing) → Missing ≡ headerAt book s at
+  short tag n t l k = ⊎-elim no-tag (λ h. sym (tagged tag t h ∙ k h)) (lt-or-ge room (at + 2))
 
-    pub header-symbol : (h : Header) → tag ≡ 1 → h ≡ symbolAt book s (c .at) → h ≡ headerAt book s at
-    unfolding byTag
-    header-symbol h t q = q ∙ rw (ne-eqb tag 0 (λ z. omega arith), eq-eqb tag 1 t) at tagged
+  pub off : room < at → Missing ≡ headerAt book s at
+  off h = no-tag (omega arith)
 
-    pub header-power : (h : Header) → tag ≡ 2 → h ≡ powerAt s (c .at) → h ≡ headerAt book s at
-    unfolding byTag
-    header-power h t q = q ∙ rw (ne-eqb tag 0 (λ z. omega arith), ne-eqb tag 1 (λ z. omega arith), eq-eqb tag 2 t) at tagged
+  pub variable-short : x / 2 ^ 62 % 4 ≡ 0 → room < at + 8 → Missing ≡ headerAt book s at
+  unfolding byTag variableAt on-taken
+  variable-short t l = short 0 8 t l (λ h. rw (read-past s 6 (at + 2) (omega (arith, e))) refl)
 
-    pub header-missing : ¬ (tag ≡ 0) → ¬ (tag ≡ 1) → ¬ (tag ≡ 2) → Missing ≡ headerAt book s at
-    unfolding byTag
-    header-missing x y z = rw (ne-eqb tag 0 x, ne-eqb tag 1 y, ne-eqb tag 2 z) at tagged
+  pub variable-whole : x / 2 ^ 62 % 4 ≡ 0 → at + 8 ≤ room → Variable (x / 2 ^ 56 % 64) (record { at = at + 8 }) ≡ headerAt book s at
+  unfolding byTag variableAt on-taken
+  variable-whole t l =
+      sym (tagged 0 t (omega arith) ∙ rw (read-yes s 6 (at + 2) (omega arith) (omega (arith, e))) (sym here))
+    where
+      here : Variable (x / 2 ^ 56 % 64) (record { at = at + 8 }) ≡ Variable (bitsAt s (at + 2) 6) (record { at = at + 2 + 6 })
+      here = ap₂ (λ (n k : ℕ). Variable n (record { at = k })) (v .field 2 6 (omega arith)) (omega arith)
+
+  pub symbol-short : x / 2 ^ 62 % 4 ≡ 1 → room < at + 10 → Missing ≡ headerAt book s at
+  unfolding byTag symbolAt on-taken
+  symbol-short t l = short 1 10 t l (λ h. rw (read-past s 8 (at + 2) (omega (arith, e))) refl)
+
+  pub symbol-whole : (n : ℕ) → x / 2 ^ 62 % 4 ≡ 1 → at + 10 ≤ room → n ≡ arities book (x / 2 ^ 54 % 256)
+      → Symbol (x / 2 ^ 54 % 256) n (record { at = at + 10 }) ≡ headerAt book s at
+  unfolding byTag symbolAt on-taken
+  symbol-whole n t l a =
+      sym (tagged 1 t (omega arith) ∙ rw (read-yes s 8 (at + 2) (omega arith) (omega (arith, e))) (sym here))
+    where
+      here : Symbol (x / 2 ^ 54 % 256) n (record { at = at + 10 }) ≡ Symbol (bitsAt s (at + 2) 8) (arities book (bitsAt s (at + 2) 8)) (record { at = at + 2 + 8 })
+      here =
+          ap₂ (λ (m k : ℕ). Symbol (x / 2 ^ 54 % 256) m (record { at = k })) a (omega arith)
+          ∙ ap (λ (f : ℕ). Symbol f (arities book f) (record { at = at + 2 + 8 })) (v .field 2 8 (omega arith))
+
+  pub power-short : x / 2 ^ 62 % 4 ≡ 2 → room < at + 34 → Missing ≡ headerAt book s at
+  unfolding byTag powerAt on-taken
+  power-short t l = short 2 34 t l (λ h. ⊎-elim (λ k. rw (read-past s 8 (at + 2) (omega (arith, e))) refl) by-symbol (lt-or-ge room (at + 2 + 8)))
+    where
+      by-symbol : at + 2 + 8 ≤ room → byTag book s 2 (at + 2) ≡ Missing
+      by-symbol h =
+          rw (read-yes s 8 (at + 2) (omega arith) (omega (arith, e)))
+          (⊎-elim
+          (λ k. rw (read-past s 12 (at + 2 + 8) (omega (arith, e))) refl)
+          (λ k. rw (read-yes s 12 (at + 2 + 8) (omega arith) (omega (arith, e)), read-past s 12 (at + 2 + 8 + 12) (omega (arith, e))) refl)
+          (lt-or-ge room (at + 2 + 8 + 12)))
+
+  pub power-whole : x / 2 ^ 62 % 4 ≡ 2 → at + 34 ≤ room
+      → Power (x / 2 ^ 54 % 256) (x / 2 ^ 42 % 4096) (x / 2 ^ 30 % 4096) (record { at = at + 34 }) ≡ headerAt book s at
+  unfolding byTag powerAt on-taken
+  power-whole t l =
+      sym
+      (tagged 2 t (omega arith)
+      ∙ rw (
+        read-yes s 8 (at + 2) (omega arith) (omega (arith, e)),
+        read-yes s 12 (at + 2 + 8) (omega arith) (omega (arith, e)),
+        read-yes s 12 (at + 2 + 8 + 12) (omega arith) (omega (arith, e)),
+      )
+      (sym here))
+    where
+      b-at : at + 22 ≡ at + 2 + 8 + 12
+      b-at = omega arith
+
+      a-at : at + 10 ≡ at + 2 + 8
+      a-at = omega arith
+
+      here : Power (x / 2 ^ 54 % 256) (x / 2 ^ 42 % 4096) (x / 2 ^ 30 % 4096) (record { at = at + 34 })
+          ≡ Power (bitsAt s (at + 2) 8) (bitsAt s (at + 2 + 8) 12) (bitsAt s (at + 2 + 8 + 12) 12) (record { at = at + 2 + 8 + 12 + 12 })
+      here =
+          ap₂ (λ (f k : ℕ). Power f (x / 2 ^ 42 % 4096) (x / 2 ^ 30 % 4096) (record { at = k })) (v .field 2 8 (omega arith)) (omega arith)
+          ∙ ap₂ (λ (a b : ℕ). Power (bitsAt s (at + 2) 8) a b (record { at = at + 2 + 8 + 12 + 12 }))
+          (v .field 10 12 (omega arith) ∙ ap (λ (n : ℕ). bitsAt s n 12) a-at)
+          (v .field 22 12 (omega arith) ∙ ap (λ (n : ℕ). bitsAt s n 12) b-at)
+
+  pub no-kind : ¬ (x / 2 ^ 62 % 4 ≡ 0) → ¬ (x / 2 ^ 62 % 4 ≡ 1) → ¬ (x / 2 ^ 62 % 4 ≡ 2) → Missing ≡ headerAt book s at
+  unfolding byTag
+  no-kind a b c =
+      ⊎-elim no-tag (λ h. sym (tagged _ refl h ∙ rw (ne-eqb (x / 2 ^ 62 % 4) 0 a, ne-eqb (x / 2 ^ 62 % 4) 1 b, ne-eqb (x / 2 ^ 62 % 4) 2 c) refl)) (lt-or-ge room (at + 2))
 
 -- ---- small numbers
 

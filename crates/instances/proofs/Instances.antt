@@ -21,13 +21,11 @@ use Rattle.table.proofs.Marks.{built-form}
 use Rattle.instances.specs.Lying.{TermAt}
 use Rattle.instances.specs.Fillings.{entry, Entry, unlisted, listed, FillsTold}
 use Rattle.instances.specs.Instances.{Stored, FewNodes, Builds}
-use Rattle.instances.specs.Walks.{single, Passage, Turns, walked}
+use Rattle.instances.specs.Walks.{single, Passage, Ended, walked}
 use Rattle.instances.specs.Filled.{wordOf, filled}
 use Rattle.instances.specs.declared.Header.{Header}
 use Rattle.instances.specs.declared.Header.the-variants.{Variable, Symbol, Power, Missing}
 use Rattle.instances.specs.declared.Stand.{Stand}
-use Rattle.instances.specs.declared.Turn.{Turn}
-use Rattle.instances.specs.declared.Turn.the-variants.{Over}
 use Rattle.instances.specs.declared.Side.{Side}
 use Rattle.instances.specs.declared.Side.the-variants.{Done, Full}
 use Rattle.instances.proofs.Walks.{walked-term}
@@ -128,9 +126,9 @@ module _ (book cert w : List ℕ) (fills i j : ℕ) where
       kept = p .kept;
     }
 
-    pub built-over : {n left : ℕ} {p : Stand} → Pushing (filled book cert w fills i j) book s at base 0 w v n left p → {r : Turn} → Turns book s left p r
-        → r ≡ Over → Builds book s cert base at i j fills w v (Done n (p .at))
-    built-over {n} {left} {p} g k e = finished n (p .at) _ (going-over g k e) (pushing-over _ book s at base 0 w v n left p g k e)
+    pub built-over : {n left : ℕ} {p : Stand} → Pushing (filled book cert w fills i j) book s at base 0 w v n left p → Ended left (p .pending)
+        → Builds book s cert base at i j fills w v (Done n (p .at))
+    built-over {n} {left} {p} g e = finished n (p .at) _ (going-over g e) (pushing-over _ book s at base 0 w v n left p g e)
 
     -- the next node fits
     pub building-fits : (n left : ℕ) (p : Stand) → Pushing (filled book cert w fills i j) book s at base 0 w v n left p

@@ -12,15 +12,13 @@ use Rattle.patterns.specs.Every.{Every}
 use Rattle.patterns.proofs.Every.{every-first, every-rest, every-append}
 use Rattle.table.specs.Answer.{Says}
 use Rattle.instances.specs.Lying.{TermAt}
-use Rattle.instances.specs.Walks.{single, first-stand, Passage, Turns, walked, LevelNode}
+use Rattle.instances.specs.Walks.{single, first-stand, Passage, Ended, walked, LevelNode}
 use Rattle.instances.specs.Instances.{Levels}
 use Rattle.instances.specs.declared.Header.{Header}
 use Rattle.instances.specs.declared.Header.the-variants.{Variable, Symbol, Power, Missing}
 use Rattle.instances.specs.declared.Stand.{Stand}
-use Rattle.instances.specs.declared.Turn.{Turn}
-use Rattle.instances.specs.declared.Turn.the-variants.{Node as Met, Over}
 use Rattle.instances.proofs.Walks.{walked-term}
-use Rattle.instances.proofs.Goings.{Going, going-start, going-over, going-more, going-on}
+use Rattle.instances.proofs.Goings.{Meets, Going, going-start, going-over, going-more, going-on}
 
 mutual
   unfolding All nodes Every LevelNode
@@ -82,21 +80,21 @@ levelling-start book s at = going-start book s at tt
 met-nodes : {book s : List ℕ} {at : ℕ} (v : Passage) → walked book s at ≡ v → (t : Pattern) → TermAt book s at t → v .met ≡ nodes t
 met-nodes {book} {s} {at} v e t h = ap (λ (v : Passage). v .met) (sym e ∙ walked-term book s at t h)
 
-module _ {book s : List ℕ} {at left : ℕ} {p : Stand} (g : Levelling book s at left p) {r : Turn} (k : Turns book s left p r) where
-  pub levelling-over : r ≡ Over → Levels book s at true
+module _ {book s : List ℕ} {at left : ℕ} {p : Stand} (g : Levelling book s at left p) where
+  pub levelling-over : Ended left (p .pending) → Levels book s at true
   unfolding Says
-  levelling-over e = record { told = λ t h. level-node-all t (subst (Every LevelNode) (met-nodes _ (going-over g k e) t h) (g .holds)) }
+  levelling-over e = record { told = λ t h. level-node-all t (subst (Every LevelNode) (met-nodes _ (going-over g e) t h) (g .holds)) }
 
-  module _ {h : Header} {q : Stand} (e : r ≡ Met h q) where
+  module _ {h : Header} {q : Stand} (m : Meets book s left p h q) where
     pub levelling-not : (b : Bool) → Says (Every LevelNode (single h)) b → not b ≡ true → Levels book s at false
     unfolding Says
     levelling-not true so z = absurd (false≢true z)
     levelling-not false wild z = record {
       told = λ t l a. wild (every-rest LevelNode (g .met) (single h) (every-first LevelNode (g .met ++ single h) _
-          (subst (Every LevelNode) (sym (met-nodes _ (going-more g k e) t l)) (all-level-node t a))));
+          (subst (Every LevelNode) (sym (met-nodes _ (going-more g m) t l)) (all-level-node t a))));
     }
 
     pub levelling-on : (b : Bool) → Says (Every LevelNode (single h)) b → not b ≡ false → Levelling book s at (left - 1) q
     unfolding Says
-    levelling-on true so z = going-on g k e (every-append LevelNode (g .met) (single h) (g .holds) so)
+    levelling-on true so z = going-on g m (every-append LevelNode (g .met) (single h) (g .holds) so)
     levelling-on false wild z = absurd (false≢true (sym z))

@@ -16,14 +16,12 @@ use Rattle.table.proofs.Loads.{load-cons, load-append}
 use Rattle.table.proofs.Pushing.{became-as}
 use Rattle.table.proofs.Sides.{took-none, took-then, took-stop, took-room, took-load}
 use Rattle.table.specs.Places.{NODES}
-use Rattle.instances.specs.Walks.{single, first-stand, walk, Turns, walked}
+use Rattle.instances.specs.Walks.{single, first-stand, walk, Ended, walked}
 use Rattle.instances.specs.Filled.{ComesAs, itself}
 use Rattle.instances.specs.declared.Header.{Header}
 use Rattle.instances.specs.declared.Header.the-variants.{Variable, Symbol, Power, Missing}
 use Rattle.instances.specs.declared.Stand.{Stand}
-use Rattle.instances.specs.declared.Turn.{Turn}
-use Rattle.instances.specs.declared.Turn.the-variants.{Node as Met, Over}
-use Rattle.instances.proofs.Goings.{Going, going-start, going-on}
+use Rattle.instances.proofs.Goings.{Meets, Going, going-start, going-on}
 use Rattle.instances.proofs.Loads.{flatMap-append, each-itself, spelled-light}
 use Rattle.instances.proofs.Givings.{given, given-rest, given-over, given-more}
 
@@ -74,26 +72,25 @@ module _ (f : Node Exp → List (Node Exp)) (book s : List ℕ) (at base count :
         let rest = walk book s left p .met in
         omega (arith, took-load base count n (flatMap f (g .met)) w₀ w (g .holds), ap load (given-rest f g), load-append (flatMap f (g .met)) (flatMap f rest))
 
-    module _ {r : Turn} (k : Turns book s left p r) where
-      pub pushing-over : r ≡ Over → Pushes base count (given f book s at) w₀ w (Count n)
-      pushing-over e = took-as count (given-over f g k e) (g .holds)
+    pub pushing-over : Ended left (p .pending) → Pushes base count (given f book s at) w₀ w (Count n)
+    pushing-over e = took-as count (given-over f g e) (g .holds)
 
-      -- one node more
-      module _ {h : Header} {q : Stand} (e : r ≡ Met h q) {v : List ℕ} {u : Pushed} (t : Pushes base n (flatMap f (single h)) w v u) where
-        took-more : Pushes base count (flatMap f (g .met ++ single h)) w₀ v u
-        took-more =
-            took-as count (sym (flatMap-append f (g .met) (single h)))
-            (took-then base count n (flatMap f (g .met)) (flatMap f (single h)) w₀ w v u (g .holds) t)
+    -- one node more
+    module _ {h : Header} {q : Stand} (m : Meets book s left p h q) {v : List ℕ} {u : Pushed} (t : Pushes base n (flatMap f (single h)) w v u) where
+      took-more : Pushes base count (flatMap f (g .met ++ single h)) w₀ v u
+      took-more =
+          took-as count (sym (flatMap-append f (g .met) (single h)))
+          (took-then base count n (flatMap f (g .met)) (flatMap f (single h)) w₀ w v u (g .holds) t)
 
-        pub pushing-full : u ≡ NoRoom → Pushes base count (given f book s at) w₀ v NoRoom
-        pushing-full no-room =
-            let rest = walk book s (left - 1) q .met in
-            took-as count (given-more f g k e)
-            (took-stop base count (flatMap f (g .met ++ single h)) (flatMap f rest) w₀ v
-            (subst (λ o. Pushes base count (flatMap f (g .met ++ single h)) w₀ v o) no-room took-more))
+      pub pushing-full : u ≡ NoRoom → Pushes base count (given f book s at) w₀ v NoRoom
+      pushing-full no-room =
+          let rest = walk book s (left - 1) q .met in
+          took-as count (given-more f g m)
+          (took-stop base count (flatMap f (g .met ++ single h)) (flatMap f rest) w₀ v
+          (subst (λ o. Pushes base count (flatMap f (g .met ++ single h)) w₀ v o) no-room took-more))
 
-        pub pushing-on : {m : ℕ} → u ≡ Count m → Pushing f book s at base count w₀ v m (left - 1) q
-        pushing-on counted = going-on g k e (subst (λ o. Pushes base count (flatMap f (g .met ++ single h)) w₀ v o) counted took-more)
+      pub pushing-on : {k : ℕ} → u ≡ Count k → Pushing f book s at base count w₀ v k (left - 1) q
+      pushing-on counted = going-on g m (subst (λ o. Pushes base count (flatMap f (g .met ++ single h)) w₀ v o) counted took-more)
 
 -- ---- as it stands
 

@@ -1,9 +1,11 @@
 -- The header of a node as it stands at a bit: its tag, and the fields that are its own.
 use Prim.Native.Nat.{ℕ}
+use mathlib.Core.Path.{_≡_}
 use mathlib.Core.List.{List}
 use mathlib.Core.Bool.{cond}
 use lib.Dec.{eqb}
-use Rattle.bits.specs.Bits.{readField}
+use Rattle.bits.specs.Bits.{roomOf, readField}
+use Rattle.bits.specs.View.{Views}
 use Rattle.bits.specs.declared.Cursor.{Cursor}
 use Rattle.bits.specs.declared.Taken.{Taken}
 use Rattle.bits.specs.declared.Taken.the-variants.{Got, Past}
@@ -38,3 +40,7 @@ byTag book s tag at =
 -- 01: "a 2-bit tag for each node"
 unfoldable pub headerAt : List ℕ → List ℕ → ℕ → Header
 headerAt book s at = on-taken (readField s 2 at) (λ tag c. byTag book s tag (c .at))
+
+-- the header at a bit of any file of which x is the view from there on, and which has `room` bits
+pub record Heads (book : List ℕ) (x at room : ℕ) (r : Header) : Type 0 where
+  pub is : (s : List ℕ) → Views s at x → room ≡ roomOf s → r ≡ headerAt book s at

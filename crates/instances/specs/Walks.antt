@@ -1,6 +1,7 @@
 -- The walk over a packed term, node after node: the nodes that it meets, and the bit where it ends.
 use Prim.Native.Nat.{ℕ, zero, suc, _+_, _*_, _-_, _≤_, _<_, _^_}
 use mathlib.Core.Path.{_≡_}
+use mathlib.Core.Logic.{_⊎_}
 use mathlib.Core.List.{List, [], _∷_, _++_}
 use mathlib.Core.Bool.{cond}
 use lib.Dec.{eqb}
@@ -10,8 +11,6 @@ use Rattle.instances.specs.Headers.{headerAt}
 use Rattle.instances.specs.declared.Header.{Header}
 use Rattle.instances.specs.declared.Header.the-variants.{Variable, Symbol, Power, Missing}
 use Rattle.instances.specs.declared.Stand.{Stand}
-use Rattle.instances.specs.declared.Turn.{Turn}
-use Rattle.instances.specs.declared.Turn.the-variants.{Node as Met, Over}
 
 -- the node that a header tells, none where it is missing
 unfoldable pub single : Header → List (Node Exp)
@@ -67,13 +66,9 @@ Named (Symbol f n c) = Unit {0}
 Named (Power s a b c) = Unit {0}
 Named Missing = Unit {0}
 
--- one step of the walk from p on: it is over, or it meets a header and goes on behind it
-unfoldable pub Stepped : List ℕ → List ℕ → ℕ → Stand → Turn → Type 0
-Stepped book s left p Over = walk book s left p ≡ ended p
-Stepped book s left p (Met h q) = (0 < left) × Within (left - 1) q × Named h × (walk book s left p ≡ ahead (single h) (walk book s (left - 1) q))
-
-pub record Turns (book s : List ℕ) (left : ℕ) (p : Stand) (r : Turn) : Type 0 where
-  pub is : Stepped book s left p r
+-- a walk is over where no term is to come, or no node is allowed
+abbrev pub Ended : ℕ → ℕ → Type 0
+Ended left pending = (left ≡ 0) ⊎ (pending ≡ 0)
 
 -- the walk over the term at a bit. 01: terms "have at most 256 nodes"
 unfoldable pub walked : List ℕ → List ℕ → ℕ → Passage

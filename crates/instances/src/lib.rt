@@ -1,12 +1,12 @@
 // Terms that lie packed in a file: the walk over one, and the normal form of an instance built in one pass, or held against one that was; fields
 // and fillings there.
 pub mod fillings;
-mod nodes;
+pub mod nodes;
 pub mod second;
 
 use bits::Cursor;
 use bits::Taken;
-use nodes::header_at;
+use nodes::header_of;
 use table::Item;
 use table::Pushed;
 ghost use mathlib.Core.Path.{_≡_};
@@ -20,7 +20,7 @@ ghost use Rattle.table.specs.Sides.{Room, Pushes};
 ghost use Rattle.table.specs.Places.{SIDE};
 ghost use Rattle.instances.specs.Taking.{Takes};
 ghost use Rattle.instances.specs.Instances.{Skips, Levels, Builds};
-ghost use Rattle.instances.specs.Walks.{single, Next, Within, Turns, walked, LevelNode};
+ghost use Rattle.instances.specs.Walks.{single, Next, Ended, walked, LevelNode};
 ghost use Rattle.instances.specs.Filled.{ComesAs, wordOf, filled};
 
 // A field, and the bit behind it.
@@ -56,12 +56,6 @@ pub struct Stand {
     pub pending: usize,
 }
 
-// A turn of a walk: the header that it meets, and where it stands behind that node; or the walk is over.
-pub enum Turn {
-    Node { header: Header, stand: Stand },
-    Over,
-}
-
 // A side of a comparison: how many nodes it has, and where the term behind it ends; or it has more than 1,024.
 pub enum Side {
     Done { nodes: usize, end: usize },
@@ -81,7 +75,7 @@ pub fn field(s: &[u8], w: usize, at: usize) -> Read
 }
 
 // Where a walk stands behind a node.
-fn next(header: Header, pending: usize) -> Stand
+pub fn next(header: Header, pending: usize) -> Stand
     requires { ⌜ (1 ≤ pending) × (pending ≤ 2 ^ 32) ⌝ }
     ensures { λ r. ⌜ Next pending header r ⌝ }
 {
@@ -103,21 +97,14 @@ fn next(header: Header, pending: usize) -> Stand
     }
 }
 
-// One turn of a walk that meets at most `left` nodes more.
-pub fn step(book: &[u8], s: &[u8], p: Stand, left: usize) -> Turn
-    requires { ⌜ Within left p ⌝ }
-    ensures { λ r. ⌜ Turns (now (book .entry)) (now (s .entry)) left p r ⌝ }
+// Whether a walk is over: no term is to come, or no node is allowed.
+pub fn is_over(p: Stand, left: usize) -> bool
+    ensures { λ r. ⌜ Says (Ended left (p .pending)) r ⌝ }
 {
-    let pending = p.pending;
     if left == 0 {
-        return Turn::Over;
+        return true;
     }
-    if pending == 0 {
-        return Turn::Over;
-    }
-    let header = header_at(book, s, p.at);
-    let stand = next(header, pending);
-    Turn::Node { header, stand }
+    p.pending == 0
 }
 
 // Where the term at a bit ends.
@@ -126,13 +113,12 @@ pub fn skip(book: &[u8], s: &[u8], at: usize) -> usize
 {
     let mut p = Stand { at, pending: 1 };
     let mut left: usize = 256;
-    loop {
-        let Turn::Node { stand, .. } = step(book, s, p, left) else {
-            return p.at;
-        };
-        p = stand;
+    while !is_over(p, left) {
+        let header = header_of(book, bits::view(s, p.at), p.at, bits::room(s));
+        p = next(header, p.pending);
         left -= 1;
     }
+    p.at
 }
 
 // Whether a = 0 in a node.
@@ -153,16 +139,16 @@ pub fn level(book: &[u8], s: &[u8], at: usize) -> bool
 {
     let mut p = Stand { at, pending: 1 };
     let mut left: usize = 256;
-    loop {
-        let Turn::Node { header, stand } = step(book, s, p, left) else {
-            return true;
-        };
+    while !is_over(p, left) {
+        let header = header_of(book, bits::view(s, p.at), p.at, bits::room(s));
+        let stand = next(header, p.pending);
         if !level_node(header) {
             return false;
         }
         p = stand;
         left -= 1;
     }
+    true
 }
 
 // A node as it comes, reindexed by (i, j). A missing one comes as a power that counts nothing.
@@ -195,10 +181,9 @@ fn spell(book: &[u8], s: &[u8], w: &mut [u64], base: usize, count: usize, at: us
     let mut n = count;
     let mut p = Stand { at, pending: 1 };
     let mut left: usize = 256;
-    loop {
-        let Turn::Node { header, stand } = step(book, s, p, left) else {
-            return Pushed::Count(n);
-        };
+    while !is_over(p, left) {
+        let header = header_of(book, bits::view(s, p.at), p.at, bits::room(s));
+        let stand = next(header, p.pending);
         let Pushed::Count(k) = table::push(w, base, n, item_of(header, 1, 0)) else {
             return Pushed::NoRoom;
         };
@@ -206,6 +191,7 @@ fn spell(book: &[u8], s: &[u8], w: &mut [u64], base: usize, count: usize, at: us
         p = stand;
         left -= 1;
     }
+    Pushed::Count(n)
 }
 
 // The word at `fills` for a node: 0, or one more than the place of its term.
@@ -268,10 +254,9 @@ pub fn build(
     let mut nodes: usize = 0;
     let mut p = Stand { at, pending: 1 };
     let mut left: usize = 256;
-    loop {
-        let Turn::Node { header, stand } = step(book, s, p, left) else {
-            return Side::Done { nodes, end: p.at };
-        };
+    while !is_over(p, left) {
+        let header = header_of(book, bits::view(s, p.at), p.at, bits::room(s));
+        let stand = next(header, p.pending);
         let Pushed::Count(k) = push_filled(book, certificate, w, base, nodes, header, i, j, fills)
         else {
             return Side::Full;
@@ -280,4 +265,5 @@ pub fn build(
         p = stand;
         left -= 1;
     }
+    Side::Done { nodes, end: p.at }
 }

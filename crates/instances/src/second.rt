@@ -1,9 +1,10 @@
 // The second side of a comparison: an instance of a packed term, walked against the nodes of the first.
 use crate::Header;
 use crate::Stand;
-use crate::Turn;
+use crate::is_over;
 use crate::item_of;
-use crate::step;
+use crate::next;
+use crate::nodes::header_of;
 use crate::word_of;
 use table::Held;
 use table::NODES;
@@ -27,14 +28,14 @@ fn hold_term(book: &[u8], s: &[u8], w: &[u64], base: usize, from: Held, at: usiz
     let mut h = from;
     let mut p = Stand { at, pending: 1 };
     let mut left: usize = 256;
-    loop {
-        let Turn::Node { header, stand } = step(book, s, p, left) else {
-            return h;
-        };
+    while !is_over(p, left) {
+        let header = header_of(book, bits::view(s, p.at), p.at, bits::room(s));
+        let stand = next(header, p.pending);
         h = table::second::hold(w, base, h, item_of(header, 1, 0));
         p = stand;
         left -= 1;
     }
+    h
 }
 
 // A node of an instance: a listed variable's term as it stands, any other node reindexed.
@@ -87,15 +88,15 @@ pub fn hold_instance(
     };
     let mut p = Stand { at, pending: 1 };
     let mut left: usize = 256;
-    loop {
+    while !is_over(p, left) {
+        let header = header_of(book, bits::view(s, p.at), p.at, bits::room(s));
+        let stand = next(header, p.pending);
+        h = hold_filled(book, certificate, w, base, h, header, i, j, fills);
         if h.nodes > NODES {
             return Outcome::Full;
         }
-        let Turn::Node { header, stand } = step(book, s, p, left) else {
-            return table::second::outcome(w, base, n, h);
-        };
-        h = hold_filled(book, certificate, w, base, h, header, i, j, fills);
         p = stand;
         left -= 1;
     }
+    table::second::outcome(w, base, n, h)
 }

@@ -20,13 +20,11 @@ use Rattle.table.proofs.Sides.{kept-wider}
 use Rattle.instances.specs.Lying.{arities}
 use Rattle.instances.specs.Fillings.{entry}
 use Rattle.instances.specs.Listings.{Forgets}
-use Rattle.instances.specs.Walks.{single, first-stand, Passage, Turns, walked}
+use Rattle.instances.specs.Walks.{single, first-stand, Passage, Ended, walked}
 use Rattle.instances.specs.Walks.{walk as passage}
 use Rattle.instances.specs.declared.Header.{Header}
 use Rattle.instances.specs.declared.Stand.{Stand}
-use Rattle.instances.specs.declared.Turn.{Turn}
-use Rattle.instances.specs.declared.Turn.the-variants.{Node as Met, Over}
-use Rattle.instances.proofs.Goings.{Going, going-start, going-over, going-more, going-on}
+use Rattle.instances.proofs.Goings.{Meets, Going, going-start, going-over, going-more, going-on}
 use Rattle.calls.specs.Standing.{nodes-from, rest, left-at, Spans, Ends}
 use Rattle.calls.specs.Moving.{Inside}
 use Rattle.calls.specs.declared.Place.{Place}
@@ -85,53 +83,52 @@ module _ (book s : List ℕ) (k at i : ℕ) (w₀ : List ℕ) (spans : Spans w�
     ends-now : Ends (arities book) w₀ k 0 → Ends (arities book) w k 0
     ends-now E = ends-kept w₀ w (g .kept .size) (λ n h. g .kept .low n h) (spans .few) E
 
-    module _ {t : Turn} (T : Turns book s left p t) where
-      -- the pattern is over: it fits
-      pub walking-over : t ≡ Over → FitsAt book s k at i w₀ w true
-      unfolding fits found
-      walking-over e = record {
+    -- the pattern is over: it fits
+    pub walking-over : Ended left (p .pending) → FitsAt book s k at i w₀ w true
+    unfolding fits found
+    walking-over e = record {
+      told = λ E.
+          ap found
+          (sym
+          (ap (λ (v : Passage). walk (arities book) (retag (value i) (v .met)) (begin w₀ k)) (going-over (g .going) e)
+          ∙ g .going .holds E));
+      kept = g .kept;
+    }
+
+    module _ {h : Header} {q : Stand} (here : Meets book s left p h q) {v : List ℕ} {r : Move} (m : Matches k place (retag (value i) (single h)) w v r) where
+      -- one node more
+      stepped : Ends (arities book) w₀ k 0
+          → walk (arities book) (retag (value i) (g .going .met ++ single h)) (begin w₀ k) ≡ arrived (arities book) v k r
+      unfolding bind
+      stepped E =
+          ap (λ ns. walk (arities book) ns (begin w₀ k)) (retag-append (value i) (g .going .met) (single h))
+          ∙ walk-append (arities book) (retag (value i) (g .going .met)) (retag (value i) (single h)) (begin w₀ k)
+          ∙ ap (λ o. bind o (walk (arities book) (retag (value i) (single h)))) (g .going .holds E)
+          ∙ sym (m .told (arities book) (ends-now E))
+
+      pub walking-off : r ≡ Off → FitsAt book s k at i w₀ v false
+      unfolding fits found bind arrived
+      walking-off z = record {
         told = λ E.
             ap found
             (sym
-            (ap (λ (v : Passage). walk (arities book) (retag (value i) (v .met)) (begin w₀ k)) (going-over (g .going) T e)
-            ∙ g .going .holds E));
-        kept = g .kept;
+            (ap (λ (u : Passage). walk (arities book) (retag (value i) (u .met)) (begin w₀ k)) (going-more (g .going) here)
+            ∙ ap (λ ns. walk (arities book) ns (begin w₀ k)) (retag-append (value i) (g .going .met ++ single h) more)
+            ∙ walk-append (arities book) (retag (value i) (g .going .met ++ single h)) (retag (value i) more) (begin w₀ k)
+            ∙ ap (λ o. bind o (walk (arities book) (retag (value i) more))) (stepped E ∙ ap (arrived (arities book) v k) z)));
+        kept = kept-then (g .kept) (m .kept);
       }
+        where
+          more : List (Node Exp)
+          more = passage book s (left - 1) q .met
 
-      module _ {h : Header} {q : Stand} (e : t ≡ Met h q) {v : List ℕ} {r : Move} (m : Matches k place (retag (value i) (single h)) w v r) where
-        -- one node more
-        stepped : Ends (arities book) w₀ k 0
-            → walk (arities book) (retag (value i) (g .going .met ++ single h)) (begin w₀ k) ≡ arrived (arities book) v k r
-        unfolding bind
-        stepped E =
-            ap (λ ns. walk (arities book) ns (begin w₀ k)) (retag-append (value i) (g .going .met) (single h))
-            ∙ walk-append (arities book) (retag (value i) (g .going .met)) (retag (value i) (single h)) (begin w₀ k)
-            ∙ ap (λ o. bind o (walk (arities book) (retag (value i) (single h)))) (g .going .holds E)
-            ∙ sym (m .told (arities book) (ends-now E))
-
-        pub walking-off : r ≡ Off → FitsAt book s k at i w₀ v false
-        unfolding fits found bind arrived
-        walking-off z = record {
-          told = λ E.
-              ap found
-              (sym
-              (ap (λ (u : Passage). walk (arities book) (retag (value i) (u .met)) (begin w₀ k)) (going-more (g .going) T e)
-              ∙ ap (λ ns. walk (arities book) ns (begin w₀ k)) (retag-append (value i) (g .going .met ++ single h) more)
-              ∙ walk-append (arities book) (retag (value i) (g .going .met ++ single h)) (retag (value i) more) (begin w₀ k)
-              ∙ ap (λ o. bind o (walk (arities book) (retag (value i) more))) (stepped E ∙ ap (arrived (arities book) v k) z)));
-          kept = kept-then (g .kept) (m .kept);
-        }
-          where
-            more : List (Node Exp)
-            more = passage book s (left - 1) q .met
-
-        pub walking-on : {next : Place} → r ≡ On next → Walking book s k at i w₀ v next (left - 1) q
-        unfolding arrived Inside
-        walking-on z = record {
-          going = going-on (g .going) T e (λ E. stepped E ∙ ap (arrived (arities book) v k) z);
-          inside = subst (Inside k) z (m .inside);
-          kept = kept-then (g .kept) (m .kept);
-        }
+      pub walking-on : {next : Place} → r ≡ On next → Walking book s k at i w₀ v next (left - 1) q
+      unfolding arrived Inside
+      walking-on z = record {
+        going = going-on (g .going) here (λ E. stepped E ∙ ap (arrived (arities book) v k) z);
+        inside = subst (Inside k) z (m .inside);
+        kept = kept-then (g .kept) (m .kept);
+      }
 
 -- ---- the bindings forgotten first
 

@@ -4,8 +4,8 @@ use calls::Place;
 use instances::Header;
 use instances::Side;
 use instances::Stand;
-use instances::Turn;
 use instances::fillings::forget;
+use instances::nodes::header_of;
 use table::BOUND;
 use table::EMPTY;
 use table::FIRST;
@@ -89,10 +89,9 @@ fn fits_at(book: &[u8], s: &[u8], w: &mut [u64], k: usize, at: usize, i: u16) ->
     let mut place = Place { node: 0, used: 0 };
     let mut p = Stand { at, pending: 1 };
     let mut left: usize = 256;
-    loop {
-        let Turn::Node { header, stand } = instances::step(book, s, p, left) else {
-            return true;
-        };
+    while !instances::is_over(p, left) {
+        let header = header_of(book, bits::view(s, p.at), p.at, bits::room(s));
+        let stand = instances::next(header, p.pending);
         let Move::On(next) = match_node(w, k, header, i, place) else {
             return false;
         };
@@ -100,6 +99,7 @@ fn fits_at(book: &[u8], s: &[u8], w: &mut [u64], k: usize, at: usize, i: u16) ->
         p = stand;
         left -= 1;
     }
+    true
 }
 
 // The first of n indices from i on at which the term at a bit of s matches the call.

@@ -1,10 +1,10 @@
 -- `instances::build` meets its contract. The loop's invariant: what the nodes met so far give was pushed.
 use borrow.Author.Needs.{needs}
+use native.Mathlib.Omega.{arith}
 use Rattle.instances.specs.Filled.{filled}
-use Rattle.instances.proofs.Goings.{going-left}
+use Rattle.instances.proofs.Goings.{meets, is-ended, some-pending}
 use Rattle.instances.proofs.Pushings.{Pushing, pushing-start, pushing-full, pushing-on}
 use Rattle.instances.proofs.Instances.{step-filled, building-fits, built-over, built-full}
-use native.Mathlib.Omega.{arith}
 use Rattle.instances.proofs.build.Statement.{statement}
 use Rattle.instances.proofs.build.Tie as tie
 
@@ -17,26 +17,26 @@ abbrev μ-loop : tie.MeasureT-loop
 loop-holds : tie.Need-loop-holds Inv-loop μ-loop
 loop-holds c = pushing-start _ _ _ _ _ _ _ (omega arith)
 
-step-requires : tie.Need-step-requires Inv-loop μ-loop
-step-requires c κs = c .loop .inv .few
-
-returns : tie.Need-returns Inv-loop μ-loop
-returns c = built-over _ _ _ _ _ _ _ _ _ _ (c .before .before .before .loop .inv) (c .before .before .step .ensures) (c .enum-told .given .1)
+next-requires : tie.Need-next-requires Inv-loop μ-loop
+next-requires c κs = some-pending _ _ _ (c .before .before .before .before .is-over .ensures) (c .before .before .before .if1 .taken) (c .before .before .before .before .before .loop .inv .few)
 
 push-filled-requires : tie.Need-push-filled-requires Inv-loop μ-loop
-push-filled-requires c κs = building-fits _ _ _ _ _ _ _ _ _ _ _ _ _ (c .before .before .before .before .before .loop .inv) (c .before .before .before .before .before .before .before .before .before .before .pre) (omega arith) (omega arith)
+push-filled-requires c κs = building-fits _ _ _ _ _ _ _ _ _ _ _ _ _ (c .before .before .before .before .before .before .before .loop .inv) (c .before .before .before .before .before .before .before .before .before .before .before .before .pre) (omega arith) (omega arith)
 
-returns-2 : tie.Need-returns-2 Inv-loop μ-loop
-returns-2 c = built-full _ _ _ _ _ _ _ _ _ _ (pushing-full _ _ _ _ _ _ _ _ _ _ _ (c .before .before .before .before .before .before .before .before .before .before .loop .inv) (c .before .before .before .before .before .before .before .before .before .step .ensures) (c .before .before .before .before .before .before .before .header .given .1) (step-filled _ _ _ _ _ _ _ _ (c .before .before .before .before .before .before .before .before .before .before .before .before .before .before .before .pre .1) (c .before .before .before .before .before .before .before .before .before .before .loop .inv .holds .kept) (c .before .before .before .before .push-filled .ensures)) (c .enum-told2 .given .1))
+returns : tie.Need-returns Inv-loop μ-loop
+returns c = built-full _ _ _ _ _ _ _ _ _ _ (pushing-full _ _ _ _ _ _ _ _ _ _ _ (c .before .before .before .before .before .before .before .before .before .before .before .before .loop .inv) (meets _ _ _ _ _ (c .before .before .before .before .before .before .before .before .before .before .before .is-over .ensures) (c .before .before .before .before .before .before .before .before .before .before .if1 .taken) (c .before .before .before .before .before .before .before .before .before .before .before .before .loop .inv .few) (c .before .before .before .before .before .before .before .before .before .view .ensures) (c .before .before .before .before .before .before .before .before .room .ensures) (c .before .before .before .before .before .before .before .header-of .ensures) (c .before .before .before .before .before .before .next .ensures)) (step-filled _ _ _ _ _ _ _ _ (c .before .before .before .before .before .before .before .before .before .before .before .before .before .before .before .before .before .pre .1) (c .before .before .before .before .before .before .before .before .before .before .before .before .loop .inv .holds .kept) (c .before .before .before .before .push-filled .ensures)) (c .enum-told .given .1))
 
 sub-left : tie.Need-sub-left Inv-loop μ-loop
-sub-left c = going-left (c .before .before .before .before .before .before .before .before .before .before .before .loop .inv) (c .before .before .before .before .before .before .before .before .before .before .step .ensures) (c .before .before .before .before .before .before .before .before .header .given .1)
+sub-left c = omega (arith, (meets _ _ _ _ _ (c .before .before .before .before .before .before .before .before .before .before .before .before .is-over .ensures) (c .before .before .before .before .before .before .before .before .before .before .before .if1 .taken) (c .before .before .before .before .before .before .before .before .before .before .before .before .before .loop .inv .few) (c .before .before .before .before .before .before .before .before .before .before .view .ensures) (c .before .before .before .before .before .before .before .before .before .room .ensures) (c .before .before .before .before .before .before .before .before .header-of .ensures) (c .before .before .before .before .before .before .before .next .ensures)) .some)
 
 loop-less : tie.Need-loop-less Inv-loop μ-loop
-loop-less c = omega (arith, going-left (c .before .before .before .before .before .before .before .before .before .before .before .loop .inv) (c .before .before .before .before .before .before .before .before .before .before .step .ensures) (c .before .before .before .before .before .before .before .before .header .given .1))
+loop-less c = omega (arith, (meets _ _ _ _ _ (c .before .before .before .before .before .before .before .before .before .before .before .before .is-over .ensures) (c .before .before .before .before .before .before .before .before .before .before .before .if1 .taken) (c .before .before .before .before .before .before .before .before .before .before .before .before .before .loop .inv .few) (c .before .before .before .before .before .before .before .before .before .before .view .ensures) (c .before .before .before .before .before .before .before .before .before .room .ensures) (c .before .before .before .before .before .before .before .before .header-of .ensures) (c .before .before .before .before .before .before .before .next .ensures)) .some)
 
 loop-again : tie.Need-loop-again Inv-loop μ-loop
-loop-again c = pushing-on _ _ _ _ _ _ _ _ _ _ _ (c .before .before .before .before .before .before .before .before .before .before .before .loop .inv) (c .before .before .before .before .before .before .before .before .before .before .step .ensures) (c .before .before .before .before .before .before .before .before .header .given .1) (step-filled _ _ _ _ _ _ _ _ (c .before .before .before .before .before .before .before .before .before .before .before .before .before .before .before .before .pre .1) (c .before .before .before .before .before .before .before .before .before .before .before .loop .inv .holds .kept) (c .before .before .before .before .before .push-filled .ensures)) (c .before .k .given .1)
+loop-again c = pushing-on _ _ _ _ _ _ _ _ _ _ _ (c .before .before .before .before .before .before .before .before .before .before .before .before .before .loop .inv) (meets _ _ _ _ _ (c .before .before .before .before .before .before .before .before .before .before .before .before .is-over .ensures) (c .before .before .before .before .before .before .before .before .before .before .before .if1 .taken) (c .before .before .before .before .before .before .before .before .before .before .before .before .before .loop .inv .few) (c .before .before .before .before .before .before .before .before .before .before .view .ensures) (c .before .before .before .before .before .before .before .before .before .room .ensures) (c .before .before .before .before .before .before .before .before .header-of .ensures) (c .before .before .before .before .before .before .before .next .ensures)) (step-filled _ _ _ _ _ _ _ _ (c .before .before .before .before .before .before .before .before .before .before .before .before .before .before .before .before .before .before .pre .1) (c .before .before .before .before .before .before .before .before .before .before .before .before .before .loop .inv .holds .kept) (c .before .before .before .before .before .push-filled .ensures)) (c .before .k .given .1)
+
+returns-2 : tie.Need-returns-2 Inv-loop μ-loop
+returns-2 c = built-over _ _ _ _ _ _ _ _ _ _ (c .before .before .loop .inv) (is-ended _ _ _ (c .before .is-over .ensures) (c .if1 .left))
 
 pub build-spec : {M : Type 1} → statement M
 build-spec =
@@ -44,12 +44,18 @@ build-spec =
     Inv-loop
     μ-loop
     loop-holds
-    step-requires
-    (λ c. search needs) (λ c. search needs) (λ c. search needs)
-    returns
+    (λ c κs. search needs)
+    (λ c κs. search needs)
+    (λ c κs. search needs)
+    (λ c κs. search needs)
+    next-requires
     push-filled-requires
-    (λ c. search needs) (λ c. search needs) (λ c. search needs)
-    returns-2
+    (λ c. search needs)
+    (λ c. search needs)
+    (λ c. search needs)
+    returns
     sub-left
     loop-less
-    loop-again)
+    loop-again
+    (λ c. search needs)
+    returns-2)

@@ -1,7 +1,7 @@
 -- `instances::skip` meets its contract. The loop's invariant: the walk is under way.
 use borrow.Author.Needs.{needs}
-use Rattle.instances.proofs.Goings.{Going, going-start, going-over, going-left, going-on, skipped}
 use native.Mathlib.Omega.{arith}
+use Rattle.instances.proofs.Goings.{meets, is-ended, some-pending, Going, going-start, going-over, going-on, skipped}
 use Rattle.instances.proofs.skip.Statement.{statement}
 use Rattle.instances.proofs.skip.Tie as tie
 
@@ -14,20 +14,20 @@ abbrev μ-loop : tie.MeasureT-loop
 loop-holds : tie.Need-loop-holds Inv-loop μ-loop
 loop-holds c = going-start _ _ _ tt
 
-step-requires : tie.Need-step-requires Inv-loop μ-loop
-step-requires c κs = c .loop .inv .few
-
-returns : tie.Need-returns Inv-loop μ-loop
-returns c = skipped _ _ _ _ _ (going-over (c .before .before .before .loop .inv) (c .before .before .step .ensures) (c .enum-told .given .1))
+next-requires : tie.Need-next-requires Inv-loop μ-loop
+next-requires c κs = some-pending _ _ _ (c .before .before .before .before .is-over .ensures) (c .before .before .before .if1 .taken) (c .before .before .before .before .before .loop .inv .few)
 
 sub-left : tie.Need-sub-left Inv-loop μ-loop
-sub-left c = going-left (c .before .before .before .before .loop .inv) (c .before .before .before .step .ensures) (c .before .stand .given .1)
+sub-left c = omega (arith, (meets _ _ _ _ _ (c .before .before .before .before .before .is-over .ensures) (c .before .before .before .before .if1 .taken) (c .before .before .before .before .before .before .loop .inv .few) (c .before .before .before .view .ensures) (c .before .before .room .ensures) (c .before .header-of .ensures) (c .next .ensures)) .some)
 
 loop-less : tie.Need-loop-less Inv-loop μ-loop
-loop-less c = omega (arith, going-left (c .before .before .before .before .loop .inv) (c .before .before .before .step .ensures) (c .before .stand .given .1))
+loop-less c = omega (arith, (meets _ _ _ _ _ (c .before .before .before .before .before .is-over .ensures) (c .before .before .before .before .if1 .taken) (c .before .before .before .before .before .before .loop .inv .few) (c .before .before .before .view .ensures) (c .before .before .room .ensures) (c .before .header-of .ensures) (c .next .ensures)) .some)
 
 loop-again : tie.Need-loop-again Inv-loop μ-loop
-loop-again c = going-on (c .before .before .before .before .loop .inv) (c .before .before .before .step .ensures) (c .before .stand .given .1) tt
+loop-again c = going-on (c .before .before .before .before .before .before .loop .inv) (meets _ _ _ _ _ (c .before .before .before .before .before .is-over .ensures) (c .before .before .before .before .if1 .taken) (c .before .before .before .before .before .before .loop .inv .few) (c .before .before .before .view .ensures) (c .before .before .room .ensures) (c .before .header-of .ensures) (c .next .ensures)) tt
+
+returns : tie.Need-returns Inv-loop μ-loop
+returns c = skipped _ _ _ _ _ (going-over (c .before .before .loop .inv) (is-ended _ _ _ (c .before .is-over .ensures) (c .if1 .left)))
 
 pub skip-spec : {M : Type 1} → statement M
 skip-spec =
@@ -35,9 +35,12 @@ skip-spec =
     Inv-loop
     μ-loop
     loop-holds
-    step-requires
-    (λ c. search needs) (λ c. search needs)
-    returns
+    (λ c κs. search needs)
+    (λ c κs. search needs)
+    (λ c κs. search needs)
+    (λ c κs. search needs)
+    next-requires
     sub-left
     loop-less
-    loop-again)
+    loop-again
+    returns)
