@@ -41,7 +41,7 @@ module _ (s : List ℕ) (f : ℕ) where
   unfolding arityAt
   by-count count e = rw e refl
 
-  pub arity-none : length s ≡ 0 → arityAt s [] false f ≡ 16
+  arity-none : length s ≡ 0 → arityAt s [] false f ≡ 16
   arity-none e = by-count 0 (number-past s 8 0 0 0 (omega arith) (omega arith) (omega arith) (omega arith)) ∙ rw (le-ltb f 0 (omega arith)) refl
 
 module _ (s : List ℕ) (f : ℕ) (small : Bytes s) (some : 1 ≤ length s) where
@@ -53,8 +53,8 @@ module _ (s : List ℕ) (f : ℕ) (small : Bytes s) (some : 1 ≤ length s) wher
   pub arity-beyond : byteAt s 0 ≤ f → arityAt s [] false f ≡ 16
   arity-beyond h = by-byte ∙ rw (le-ltb f (byteAt s 0) h) refl
 
-  pub arity-past : f < byteAt s 0 → length s ≤ 1 + f / 2 → arityAt s [] false f ≡ 16
-  arity-past h l =
+  arity-gone : f < byteAt s 0 → length s ≤ 1 + f / 2 → arityAt s [] false f ≡ 16
+  arity-gone h l =
       by-byte ∙ rw (lt-ltb f (byteAt s 0) h) (number-past s 4 (8 + 4 * f) (1 + f) 16 (omega arith) (omega (arith, small 0)) (omega (arith, small 0)) (omega (arith, small 0)))
 
   -- the byte of two arities
@@ -83,3 +83,9 @@ module _ (s : List ℕ) (f : ℕ) (small : Bytes s) (some : 1 ≤ length s) wher
   arity-there r h l n =
       chosen r n
       ∙ sym (by-byte ∙ rw (lt-ltb f (byteAt s 0) h) (number-there s 4 (8 + 4 * f) (1 + f) 16 (omega arith) (omega (arith, small 0)) (omega (arith, small 0)) (omega (arith, small 0))))
+
+-- where its half byte would lie past the end there is no such symbol, or no arity
+pub arity-past : (s : List ℕ) (f : ℕ) → Bytes s → length s ≤ 1 + f / 2 → arityAt s [] false f ≡ 16
+arity-past s f small l =
+    ⊎-elim (λ h. arity-none s f (omega arith)) (λ some. ⊎-elim (λ h. arity-gone s f small some h l) (λ h. arity-beyond s f small some h) (lt-or-ge f (byteAt s 0)))
+    (lt-or-ge (length s) 1)

@@ -62,14 +62,11 @@ fn nibble(byte: u8, n: u16) -> u16
 pub fn arity_of(book: &[u8], f: u16) -> u16
     ensures { λ r. ⌜ r ≡ arityAt (now (book .entry)) [] false f ⌝ }
 {
-    if book.len() == 0 {
+    let k = 1 + f as usize / 2;
+    if k >= book.len() {
         return 16;
     }
     if f >= book[0] as u16 {
-        return 16;
-    }
-    let k = 1 + f as usize / 2;
-    if k >= book.len() {
         return 16;
     }
     nibble(book[k], f)
