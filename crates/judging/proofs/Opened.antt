@@ -21,13 +21,14 @@ use Rattle.grammar.specs.Limits.{call-counts, BookFits, CertificateFits}
 use Rattle.grammar.proofs.BookFields.{a-book-exactly}
 use Rattle.grammar.proofs.CertificateFields.{a-certificate-exactly}
 use Rattle.terms.specs.Values.{nothing}
-use Rattle.layout.specs.declared.Opening.{Opening}
-use Rattle.layout.specs.declared.Opening.the-variants.{Open, Shut}
+use Rattle.layout.specs.declared.seeing.Finding.{Finding}
+use Rattle.layout.specs.declared.seeing.Finding.the-variants.{Good, Shut}
 use Rattle.answers.specs.declared.Refusal.{Refusal}
 use Rattle.layout.specs.Files.{good, open-bytes, open-book, open-certificate, certificate-of}
-use Rattle.layout.specs.Openings.{Beside, CertificateOpened}
+use Rattle.layout.specs.Openings.{Beside}
+use Rattle.layout.specs.Findings.{CertificateSeen}
 use Rattle.layout.proofs.Opens.{in-bytes}
-use Rattle.layout.proofs.Answering.{opening-shut, opening-good}
+use Rattle.layout.proofs.Findings.{finding-shut, finding-good}
 use Rattle.layout.proofs.Besides.{arities-known}
 use Rattle.instances.specs.Lying.{Lies, Known-arities}
 use Rattle.lines.specs.Certificates.{JudgesLines}
@@ -83,17 +84,17 @@ certificate-lies {s} {b} {K} {fs} f e =
 
 -- ---- the certificate beside its book
 
-module _ {book counts certificate : List ℕ} {o : Opening} (B : Beside book counts) (C : CertificateOpened book certificate o) where
+module _ {book counts certificate : List ℕ} {o : Finding} (B : Beside book counts) (C : CertificateSeen book certificate o) where
   pub certificate-shut : {r : Refusal} → o ≡ Shut r → paper-verdict (Refused r) ≡ judging-certificate book certificate
   unfolding paper-verdict
   certificate-shut {r} e =
       sym (certificate-refused book certificate (B .tree) (B .fields) (B .opened) (paper-refusal r)
-      (opening-shut nothing (open-certificate (B .tree) certificate) (C .told (B .tree) (B .fields) (B .opened)) e))
+      (finding-shut nothing (open-certificate (B .tree) certificate) (C .told (B .tree) (B .fields) (B .opened)) e))
 
-  pub certificate-judged : {v n k : ℕ} {w after : List ℕ} {r : Verdict} → o ≡ Open v n k → JudgesLines book certificate w after r
+  pub certificate-judged : {v : ℕ} {w after : List ℕ} {r : Verdict} → o ≡ Good v → JudgesLines book certificate w after r
       → paper-verdict r ≡ judging-certificate book certificate
   certificate-judged e j =
-      let g = opening-good nothing (open-certificate (B .tree) certificate) (C .told (B .tree) (B .fields) (B .opened)) e in
+      let g = finding-good nothing (open-certificate (B .tree) certificate) (C .told (B .tree) (B .fields) (B .opened)) e in
       let b = book-lies (B .opened) in
       let c = certificate-lies (b .fits) (g .is) in
       j .told (B .tree) (book-arities book (B .opened)) (b .fits) (b .lies) (g .tree) (c .fits) (c .lies) .is

@@ -1,7 +1,9 @@
 // The judge over bytes: over a book and a certificate, and over the program's input that holds both.
 use answers::Verdict;
 use answers::W;
-use layout::Opening;
+use layout::seeing::Finding;
+use layout::seeing::see_book;
+use layout::seeing::see_certificate;
 use table::WORDS;
 ghost use mathlib.Core.Path.{_≡_};
 ghost use Prim.Native.Nat.{_≤_, _<_};
@@ -15,16 +17,16 @@ ghost use Rattle.verdicts.specs.Program.{book-length, judging-framed};
 ghost use Rattle.judging.specs.Judged.{Judged, JudgedInput};
 ghost use Rattle.judging.specs.Placed.{Placed};
 
-// The certificate beside its good book: read to its end, then judged.
+// The certificate beside its good book: walked to its end, then judged.
 fn judge_certificate(book: &[u8], counts: &[u8], certificate: &[u8], work: &mut [u64]) -> Verdict
     requires { ⌜ Beside (now book) (now counts) × (length (now certificate) ≤ 32768) × (WORDS ≤ length (now work)) ⌝ }
     ensures answered { λ r. ⌜ paper-verdict r ≡ judging-certificate (now (book .entry)) (now (certificate .entry)) ⌝ }
     ensures lent { λ _. ⌜ length (now (work .exit)) ≡ length (now (work .entry)) ⌝ }
     ensures placed { λ r. ⌜ Placed (now (book .entry)) (now (certificate .entry)) (now (work .exit)) r ⌝ }
 {
-    match layout::open_certificate(book, counts, certificate) {
-        Opening::Shut(r) => Verdict::Refused(r),
-        Opening::Open { .. } => lines::judge_lines(book, certificate, work),
+    match see_certificate(book, counts, certificate) {
+        Finding::Shut(r) => Verdict::Refused(r),
+        Finding::Good(_) => lines::judge_lines(book, certificate, work),
     }
 }
 
@@ -43,9 +45,9 @@ pub fn judge_files(book: &[u8], certificate: &[u8], work: &mut [u64]) -> Verdict
         return Verdict::Refused(answers::whole(2, W::Certificate));
     }
     let mut counts = [0u8; 256];
-    match layout::open_book(book, &mut counts) {
-        Opening::Shut(r) => Verdict::Refused(r),
-        Opening::Open { value: m, .. } => judge_certificate(book, &counts[..m], certificate, work),
+    match see_book(book, &mut counts) {
+        Finding::Shut(r) => Verdict::Refused(r),
+        Finding::Good(m) => judge_certificate(book, &counts[..m], certificate, work),
     }
 }
 

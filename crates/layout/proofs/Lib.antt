@@ -5,6 +5,7 @@ pub mod Opens
 pub mod Giving
 pub mod GoodFiles
 pub mod Besides
+pub mod Findings
 pub mod RoundTrips
 pub mod FirstFaults
 pub mod OneAnswer

@@ -88,7 +88,7 @@ values-pairs : (ms : List ℕ) → values (as-fields ms) ≡ ms
 values-pairs [] = refl
 values-pairs (m ∷ ms) = ap (λ l. m ∷ l) (values-pairs ms)
 
-noted-first : (cs ms : List ℕ) → length ms ≤ length cs → take (length ms) (noted cs 0 ms) ≡ ms
+pub noted-first : (cs ms : List ℕ) → length ms ≤ length cs → take (length ms) (noted cs 0 ms) ≡ ms
 noted-first cs ms h =
     ap (take (length ms)) (noted-sets cs 0 ms ∙ sets-first cs (as-fields ms) (rw length-map h))
     ∙ ap (λ l. take (length ms) (l ++ drop (length (as-fields ms)) cs)) (values-pairs ms)

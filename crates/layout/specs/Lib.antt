@@ -4,3 +4,4 @@ pub mod Answers
 pub mod Promises
 pub mod Openings
 pub mod FirstFaults
+pub mod Findings

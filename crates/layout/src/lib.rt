@@ -1,4 +1,6 @@
 // The two packed files: reading and writing; and a packed call.
+pub mod seeing;
+
 use answers::Answer;
 use answers::Refusal;
 use answers::W;
