@@ -10,6 +10,7 @@ pub mod Entries
 pub mod Givings
 pub mod Items
 pub mod Pushings
+pub mod Repeats
 pub mod Comings
 pub mod Instances
 pub mod Terms
