@@ -11,6 +11,7 @@ pub mod Givings
 pub mod Items
 pub mod Pushings
 pub mod Repeats
+pub mod Passings
 pub mod Comings
 pub mod Instances
 pub mod Terms

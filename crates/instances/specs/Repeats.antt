@@ -1,4 +1,4 @@
--- The term that was spelled last: what is remembered of it while a side is built.
+-- The term that was spelled last: what is remembered of it while a side is built, or held against another.
 use Prim.Native.Nat.{ℕ, _+_, _-_, _≤_}
 use mathlib.Core.Path.{_≡_}
 use mathlib.Core.Bool.{Bool}
@@ -9,11 +9,15 @@ use Rattle.patterns.specs.Push.{pushes}
 use Rattle.table.specs.Nodes.{stack}
 use Rattle.table.specs.Sides.{Pushes}
 use Rattle.table.specs.Answer.{Assures}
+use Rattle.table.specs.Places.{NODES}
+use Rattle.table.specs.Second.{Tracks, Came}
 use Rattle.table.specs.Repeats.{Closed, part}
+use Rattle.table.specs.declared.Held.{Held}
 use Rattle.table.specs.declared.Pushed.{Pushed}
 use Rattle.table.specs.declared.Pushed.the-variants.{Count, NoRoom}
 use Rattle.instances.specs.Walks.{walked}
 use Rattle.instances.specs.declared.Spelt.{Spelt}
+use Rattle.instances.specs.declared.Passed.{Passed}
 use Rattle.instances.specs.declared.Grown.{Grown}
 use Rattle.instances.specs.declared.Grown.the-variants.{To, Beyond}
 
@@ -22,6 +26,8 @@ pub record Remembers (book cert w : List ℕ) (base n : ℕ) (last : Spelt) : Ty
   pub within : last .from + last .count ≤ n
   pub nodes : ¬ (last .word ≡ 0) → part w base (last .from) (last .count) ≡ pushes exponents [] (walked book cert (last .word - 1) .met)
   pub closed : ¬ (last .word ≡ 0) → Closed (stack w base (last .from + last .count))
+
+-- ---- a side that is built
 
 -- `last`, or the term of a word that took the side from n nodes to k
 pub record Notes (base n k word : ℕ) (closed : Bool) (last : Spelt) (after : List ℕ) (r : Spelt) : Type 0 where
@@ -41,3 +47,32 @@ Recalls book cert base w Beyond = Unit {0}
 pub record Grows (book cert : List ℕ) (base n : ℕ) (ms : List (Node Exp)) (w after : List ℕ) (r : Grown) : Type 0 where
   pub took : Pushes base n ms w after (pushed r)
   pub recalls : Recalls book cert base after r
+
+-- ---- a second side
+
+-- the nodes that have come, merged, are those of some stack
+pub record Tracked (w : List ℕ) (base : ℕ) (h : Held) : Type 0 where
+  pub n : ℕ
+  pub ns : List (Node Exp)
+  pub tracks : Tracks w base n h ns
+
+-- the term of the word was spelled last, no power waits, and the stored nodes from the next on are those that it became
+pub record Repeated (w : List ℕ) (base : ℕ) (h : Held) (word : ℕ) (last : Spelt) : Type 0 where
+  pub word-same : word ≡ last .word
+  pub none : h .code ≡ 0
+  pub few : h .nodes + last .count ≤ h .parts
+  pub same : part w base (h .nodes) (last .count) ≡ part w base (last .from) (last .count)
+
+-- no node goes away
+pub record Onward (h k : Held) : Type 0 where
+  pub grew : h .code ≡ 0 → k .code ≡ 0 → h .nodes ≤ k .nodes
+
+-- `last`, or the term of a word that brought the side from h to k
+pub record NotesHeld (h k : Held) (word : ℕ) (last r : Spelt) : Type 0 where
+  pub told : (book cert w : List ℕ) (base : ℕ) → h .parts ≤ NODES → Tracked w base h → Came w base (walked book cert (word - 1) .met) h k
+      → Remembers book cert w base NODES last → Remembers book cert w base NODES r
+
+-- the nodes ms have come, and a term is remembered
+pub record Passes (book cert w : List ℕ) (base : ℕ) (ms : List (Node Exp)) (h : Held) (r : Passed) : Type 0 where
+  pub came : Came w base ms h (r .held)
+  pub remembers : Remembers book cert w base NODES (r .last)

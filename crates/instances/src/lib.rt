@@ -9,6 +9,7 @@ use bits::Cursor;
 use bits::Taken;
 use first::push_filled;
 use nodes::header_of;
+use table::Held;
 use table::Item;
 ghost use mathlib.Core.Path.{_≡_};
 ghost use Prim.Native.Nat.{_+_, _≤_, _^_};
@@ -71,6 +72,12 @@ pub struct Spelt {
 pub enum Grown {
     To { nodes: usize, last: Spelt },
     Beyond,
+}
+
+// How far a second side has come, with the term that was spelled last.
+pub struct Passed {
+    pub held: Held,
+    pub last: Spelt,
 }
 
 // The field of w bits at a bit.
