@@ -34,7 +34,7 @@ use Rattle.instances.proofs.Goings.{Meets, Going, going-start, going-on
 use Rattle.instances.proofs.Loads.{flatMap-append, each-itself, filled-light}
 use Rattle.instances.proofs.Givings.{given, given-rest, given-over}
 use Rattle.instances.proofs.Pushings.{plain, light-given}
-use Rattle.instances.proofs.Instances.{gives-itself, gives-term, instance-form}
+use Rattle.instances.proofs.Instances.{gives-itself, instance-form}
 
 -- ---- one node
 
@@ -105,10 +105,6 @@ module _ (book cert w : List ℕ) (fills i j : ℕ) {base : ℕ} {h r : Held} (h
   pub came-unlisted : {m : Item} → word ≡ 0 → ComesAs i j header m → CameOne w base (node-told m) h r
       → Came w base (flatMap (filled book cert w fills i j) (single header)) h r
   came-unlisted z c k = came-as (gives-itself book cert w fills i j header word e z) (came-item c k)
-
-  pub came-listed : ¬ (word ≡ 0) → Came w base (walked book cert (word - 1) .met) h r
-      → Came w base (flatMap (filled book cert w fills i j) (single header)) h r
-  came-listed z t = came-as (gives-term book cert w fills i j header word e z) t
 
 -- ---- the whole instance
 
