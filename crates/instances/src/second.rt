@@ -61,24 +61,24 @@ fn is_repeated(w: &[u64], base: usize, h: Held, word: u64, last: Spelt) -> bool
     table::second::again(w, base, h.nodes, last.from, last.count)
 }
 
-// The term of a word that brought a second side from h to k, if no power waits on either end and no node differs; else the one before it.
-fn remembered(h: Held, k: Held, word: u64, last: Spelt) -> Spelt
-    requires { ⌜ Onward h k ⌝ }
-    ensures { λ r. ⌜ NotesHeld h k word last r ⌝ }
+// The term of a word that brought a second side from one state to another, if no power waits on either end and no node differs; else the one before it.
+fn remembered(before: Held, after: Held, word: u64, last: Spelt) -> Spelt
+    requires { ⌜ Onward before after ⌝ }
+    ensures { λ r. ⌜ NotesHeld before after word last r ⌝ }
 {
-    if h.code != 0 {
+    if before.code != 0 {
         return last;
     }
-    if k.code != 0 {
+    if after.code != 0 {
         return last;
     }
-    if k.nodes > k.parts {
+    if after.nodes > after.parts {
         return last;
     }
     Spelt {
         word,
-        from: h.nodes,
-        count: k.nodes - h.nodes,
+        from: before.nodes,
+        count: after.nodes - before.nodes,
     }
 }
 
