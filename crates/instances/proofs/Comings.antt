@@ -26,13 +26,15 @@ use Rattle.instances.specs.Fillings.{FillsTold}
 use Rattle.instances.specs.Walks.{single, first-stand, walk, Ended, walked}
 use Rattle.instances.specs.Filled.{ComesAs, itself, wordOf, filled}
 use Rattle.instances.specs.Instances.{Against}
+use Rattle.instances.specs.Repeats.{Remembers, Tracked}
 use Rattle.instances.specs.declared.Header.{Header}
 use Rattle.instances.specs.declared.Stand.{Stand}
+use Rattle.instances.specs.declared.Spelt.{Spelt}
 use Rattle.instances.proofs.Goings.{Meets, Going, going-start, going-on}
 use Rattle.instances.proofs.Loads.{flatMap-append, each-itself, filled-light}
 use Rattle.instances.proofs.Givings.{given, given-rest, given-over}
 use Rattle.instances.proofs.Pushings.{plain, light-given}
-use Rattle.instances.proofs.Instances.{gives-itself, gives-term, instance-form}
+use Rattle.instances.proofs.Instances.{gives-itself, instance-form}
 
 -- ---- one node
 
@@ -104,10 +106,6 @@ module _ (book cert w : List ℕ) (fills i j : ℕ) {base : ℕ} {h r : Held} (h
       → Came w base (flatMap (filled book cert w fills i j) (single header)) h r
   came-unlisted z c k = came-as (gives-itself book cert w fills i j header word e z) (came-item c k)
 
-  pub came-listed : ¬ (word ≡ 0) → Came w base (walked book cert (word - 1) .met) h r
-      → Came w base (flatMap (filled book cert w fills i j) (single header)) h r
-  came-listed z t = came-as (gives-term book cert w fills i j header word e z) t
-
 -- ---- the whole instance
 
 -- no node has come
@@ -116,11 +114,21 @@ begun n = record { nodes = 0; parts = n; code = 0; a = 0; b = 0 }
 
 module _ (book s cert w : List ℕ) (at fills i j base n : ℕ) {h : Held} {left : ℕ} {p : Stand}
     (g : Coming (filled book cert w fills i j) book s at w base (begun n) h left p) where
-  pub instance-comes : Room base n w → fills + 64 ≤ length w → h .nodes ≤ NODES → i < 65536 → j < 65536
-      → Room base (h .parts) w × ((h .nodes ≤ NODES) × (h .a + h .b ≤ 2 ^ 60) × (fills + 64 ≤ length w))
-  instance-comes room low few small-i small-j = (
+  -- they are those of a stack
+  tracked : Tracked w base h
+  tracked = record { n = n; ns = _; tracks = g .holds .told n [] (held-none w base n) }
+
+  pub instance-comes : {last : Spelt} → Room base n w → fills + 64 ≤ length w → h .nodes ≤ NODES → i < 65536 → j < 65536 → Remembers book cert w base NODES last
+      → Room base (h .parts) w × ((h .nodes ≤ NODES) × (h .a + h .b ≤ 2 ^ 60) × (fills + 64 ≤ length w) × Remembers book cert w base NODES last × Tracked w base h)
+  instance-comes room low few small-i small-j m = (
     coming-room (filled book cert w fills i j) g room,
-    (few, omega (arith, coming-light (filled book cert w fills i j) g (2 ^ 38) (filled-light book cert w fills i j small-i small-j s at)), low),
+    (
+      few,
+      omega (arith, coming-light (filled book cert w fills i j) g (2 ^ 38) (filled-light book cert w fills i j small-i small-j s at)),
+      low,
+      m,
+      tracked,
+    ),
   )
 
   pub against-over : {o : Outcome} → Ended left (p .pending) → Concludes w base n h o → Against book s cert base n at i j fills w o

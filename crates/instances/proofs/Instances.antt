@@ -23,9 +23,11 @@ use Rattle.instances.specs.Fillings.{entry, Entry, unlisted, listed, Fil
 use Rattle.instances.specs.Instances.{Stored, FewNodes, Builds}
 use Rattle.instances.specs.Walks.{single, Passage, Ended, walked}
 use Rattle.instances.specs.Filled.{wordOf, filled}
+use Rattle.instances.specs.Repeats.{Remembers}
 use Rattle.instances.specs.declared.Header.{Header}
 use Rattle.instances.specs.declared.Header.the-variants.{Variable, Symbol, Power, Missing}
 use Rattle.instances.specs.declared.Stand.{Stand}
+use Rattle.instances.specs.declared.Spelt.{Spelt}
 use Rattle.instances.specs.declared.Side.{Side}
 use Rattle.instances.specs.declared.Side.the-variants.{Done, Full}
 use Rattle.instances.proofs.Walks.{walked-term}
@@ -131,13 +133,13 @@ module _ (book cert w : List ℕ) (fills i j : ℕ) where
     built-over {n} {left} {p} g e = finished n (p .at) _ (going-over g e) (pushing-over _ book s at base 0 w v n left p g e)
 
     -- the next node fits
-    pub building-fits : (n left : ℕ) (p : Stand) → Pushing (filled book cert w fills i j) book s at base 0 w v n left p
-        → (base + SIDE ≤ length w) × (fills + 64 ≤ base) → i < 65536 → j < 65536
-        → Room base n v × ((load (stack v base n) ≤ 2 ^ 60) × (fills + 64 ≤ length v))
-    building-fits n left p g before small-i small-j =
+    pub building-fits : (n left : ℕ) (p : Stand) {last : Spelt} → Pushing (filled book cert w fills i j) book s at base 0 w v n left p
+        → (base + SIDE ≤ length w) × (fills + 64 ≤ base) → i < 65536 → j < 65536 → Remembers book cert v base n last
+        → Room base n v × ((load (stack v base n) ≤ 2 ^ 60) × (fills + 64 ≤ length v) × Remembers book cert v base n last)
+    building-fits n left p g before small-i small-j m =
         let room = pushing-room _ book s at base 0 w v n left p g (record { within = before .0; few = omega arith }) in
         let light = pushing-light _ book s at base 0 w v n left p g 0 (2 ^ 38) (no-load w base) (filled-light book cert w fills i j small-i small-j s at) in
-        (room, (omega arith, omega (arith, room .within, before .1)))
+        (room, (omega arith, omega (arith, room .within, before .1), m))
 
     pub built-full : Pushes base 0 (whole s at) w v NoRoom → Builds book s cert base at i j fills w v Full
     unfolding Stored FewNodes

@@ -10,6 +10,8 @@ pub mod Entries
 pub mod Givings
 pub mod Items
 pub mod Pushings
+pub mod Repeats
+pub mod Passings
 pub mod Comings
 pub mod Instances
 pub mod Terms

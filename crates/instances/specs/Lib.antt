@@ -5,6 +5,7 @@ pub mod Fillings
 pub mod Headers
 pub mod Walks
 pub mod Filled
+pub mod Repeats
 pub mod Instances
 pub mod Noting
 pub mod Listings

@@ -1,27 +1,26 @@
 // Terms that lie packed in a file: the walk over one, and the normal form of an instance built in one pass, or held against one that was; fields
 // and fillings there.
 pub mod fillings;
+mod first;
 pub mod nodes;
 pub mod second;
 
 use bits::Cursor;
 use bits::Taken;
+use first::push_filled;
 use nodes::header_of;
+use table::Held;
 use table::Item;
-use table::Pushed;
 ghost use mathlib.Core.Path.{_≡_};
-ghost use mathlib.Core.List.{flatMap};
 ghost use Prim.Native.Nat.{_+_, _≤_, _^_};
 ghost use lib.ListN.{length};
 ghost use Rattle.patterns.specs.Every.{Every};
 ghost use Rattle.table.specs.Answer.{Says};
-ghost use Rattle.table.specs.Nodes.{stack, load};
-ghost use Rattle.table.specs.Sides.{Room, Pushes};
 ghost use Rattle.table.specs.Places.{SIDE};
 ghost use Rattle.instances.specs.Taking.{Takes};
 ghost use Rattle.instances.specs.Instances.{Skips, Levels, Builds};
-ghost use Rattle.instances.specs.Walks.{single, Next, Ended, walked, LevelNode};
-ghost use Rattle.instances.specs.Filled.{ComesAs, wordOf, filled};
+ghost use Rattle.instances.specs.Walks.{single, Next, Ended, LevelNode};
+ghost use Rattle.instances.specs.Filled.{ComesAs, wordOf};
 
 // A field, and the bit behind it.
 pub struct Read {
@@ -60,6 +59,25 @@ pub struct Stand {
 pub enum Side {
     Done { nodes: usize, end: usize },
     Full,
+}
+
+// The term that was spelled last: its word, 0 where none is remembered; the number of the first node that it became, and how many these are.
+pub struct Spelt {
+    pub word: u64,
+    pub from: usize,
+    pub count: usize,
+}
+
+// How many nodes a side holds after a node of an instance, with the term that was spelled last; or it would have to hold more than 1,024.
+pub enum Grown {
+    To { nodes: usize, last: Spelt },
+    Beyond,
+}
+
+// How far a second side has come, with the term that was spelled last.
+pub struct Passed {
+    pub held: Held,
+    pub last: Spelt,
 }
 
 // The field of w bits at a bit.
@@ -172,28 +190,6 @@ fn item_of(header: Header, i: u16, j: u16) -> Item
     }
 }
 
-// The nodes of the term at a bit, just as they stand.
-fn spell(book: &[u8], s: &[u8], w: &mut [u64], base: usize, count: usize, at: usize) -> Pushed
-    requires { ⌜ Room base count (now w) ⌝ }
-    requires { ⌜ load (stack (now w) base count) ≤ 2 ^ 60 ⌝ }
-    ensures { λ r. ⌜ Pushes base count (walked (now (book .entry)) (now (s .entry)) at .met) (now (w .entry)) (now (w .exit)) r ⌝ }
-{
-    let mut n = count;
-    let mut p = Stand { at, pending: 1 };
-    let mut left: usize = 256;
-    while !is_over(p, left) {
-        let header = header_of(book, bits::view(s, p.at), p.at, bits::room(s));
-        let stand = next(header, p.pending);
-        let Pushed::Count(k) = table::push(w, base, n, item_of(header, 1, 0)) else {
-            return Pushed::NoRoom;
-        };
-        n = k;
-        p = stand;
-        left -= 1;
-    }
-    Pushed::Count(n)
-}
-
 // The word at `fills` for a node: 0, or one more than the place of its term.
 fn word_of(w: &[u64], fills: usize, header: Header) -> u64
     requires { ⌜ fills + 64 ≤ length (now w) ⌝ }
@@ -210,29 +206,6 @@ fn word_of(w: &[u64], fills: usize, header: Header) -> u64
         Header::Power { .. } => 0,
         Header::Missing => 0,
     }
-}
-
-// A node of an instance: a listed variable's term as it stands, any other node reindexed.
-fn push_filled(
-    book: &[u8],
-    certificate: &[u8],
-    w: &mut [u64],
-    base: usize,
-    n: usize,
-    header: Header,
-    i: u16,
-    j: u16,
-    fills: usize,
-) -> Pushed
-    requires { ⌜ Room base n (now w) ⌝ }
-    requires { ⌜ (load (stack (now w) base n) ≤ 2 ^ 60) × (fills + 64 ≤ length (now w)) ⌝ }
-    ensures { λ r. ⌜ Pushes base n (flatMap (filled (now (book .entry)) (now (certificate .entry)) (now (w .entry)) fills i j) (single header)) (now (w .entry)) (now (w .exit)) r ⌝ }
-{
-    let word = word_of(w, fills, header);
-    if word == 0 {
-        return table::push(w, base, n, item_of(header, i, j));
-    }
-    spell(book, certificate, w, base, n, (word - 1) as usize)
 }
 
 // The instance of the term at a bit of s, reindexed by (i, j) and filled by terms of the certificate as the words at `fills` tell: the
@@ -252,16 +225,25 @@ pub fn build(
     ensures { λ r. ⌜ Builds (now (book .entry)) (now (s .entry)) (now (certificate .entry)) base at i j fills (now (w .entry)) (now (w .exit)) r ⌝ }
 {
     let mut nodes: usize = 0;
+    let mut last = Spelt {
+        word: 0,
+        from: 0,
+        count: 0,
+    };
     let mut p = Stand { at, pending: 1 };
     let mut left: usize = 256;
     while !is_over(p, left) {
         let header = header_of(book, bits::view(s, p.at), p.at, bits::room(s));
         let stand = next(header, p.pending);
-        let Pushed::Count(k) = push_filled(book, certificate, w, base, nodes, header, i, j, fills)
+        let Grown::To {
+            nodes: k,
+            last: spelt,
+        } = push_filled(book, certificate, w, base, nodes, header, i, j, fills, last)
         else {
             return Side::Full;
         };
         nodes = k;
+        last = spelt;
         p = stand;
         left -= 1;
     }

@@ -1,5 +1,8 @@
-// The second side of a comparison: an instance of a packed term, walked against the nodes of the first.
+// The second side of a comparison: an instance of a packed term, walked against the nodes of the first. A term that comes again at once is not
+// read again: the stored nodes are compared with those of its earlier place.
 use crate::Header;
+use crate::Passed;
+use crate::Spelt;
 use crate::Stand;
 use crate::is_over;
 use crate::item_of;
@@ -9,15 +12,17 @@ use crate::word_of;
 use table::Held;
 use table::NODES;
 use table::Outcome;
-ghost use Prim.Native.Nat.{_+_, _≤_, _^_};
+ghost use Prim.Native.Nat.{_+_, _-_, _≤_, _^_};
 ghost use mathlib.Core.List.{flatMap};
 ghost use lib.ListN.{length};
 ghost use Rattle.table.specs.Places.{NODES};
 ghost use Rattle.table.specs.Sides.{Room};
+ghost use Rattle.table.specs.Answer.{Assures};
 ghost use Rattle.table.specs.Second.{Came};
 ghost use Rattle.instances.specs.Instances.{Against};
 ghost use Rattle.instances.specs.Walks.{single, walked};
 ghost use Rattle.instances.specs.Filled.{filled};
+ghost use Rattle.instances.specs.Repeats.{Remembers, Tracked, Repeated, Onward, NotesHeld, Passes};
 
 // The nodes of the term at a bit, just as they stand.
 fn hold_term(book: &[u8], s: &[u8], w: &[u64], base: usize, from: Held, at: usize) -> Held
@@ -38,6 +43,78 @@ fn hold_term(book: &[u8], s: &[u8], w: &[u64], base: usize, from: Held, at: usiz
     h
 }
 
+// Whether a term comes that was spelled last, where no power waits, and the stored nodes from the next on are those that it became.
+fn is_repeated(w: &[u64], base: usize, h: Held, word: u64, last: Spelt) -> bool
+    requires { ⌜ Room base (h .parts) (now w) ⌝ }
+    requires { ⌜ (h .nodes ≤ NODES) × (last .from + last .count ≤ NODES) ⌝ }
+    ensures { λ r. ⌜ Assures (Repeated (now (w .entry)) base h word last) r ⌝ }
+{
+    if word != last.word {
+        return false;
+    }
+    if h.code != 0 {
+        return false;
+    }
+    if h.nodes + last.count > h.parts {
+        return false;
+    }
+    table::second::again(w, base, h.nodes, last.from, last.count)
+}
+
+// The term of a word that brought a second side from one state to another, if no power waits on either end and no node differs; else the one before it.
+fn remembered(before: Held, after: Held, word: u64, last: Spelt) -> Spelt
+    requires { ⌜ Onward before after ⌝ }
+    ensures { λ r. ⌜ NotesHeld before after word last r ⌝ }
+{
+    if before.code != 0 {
+        return last;
+    }
+    if after.code != 0 {
+        return last;
+    }
+    if after.nodes > after.parts {
+        return last;
+    }
+    Spelt {
+        word,
+        from: before.nodes,
+        count: after.nodes - before.nodes,
+    }
+}
+
+// The term of a word, just as it stands.
+fn hold_listed(
+    book: &[u8],
+    certificate: &[u8],
+    w: &[u64],
+    base: usize,
+    h: Held,
+    word: u64,
+    last: Spelt,
+) -> Passed
+    requires { ⌜ Room base (h .parts) (now w) ⌝ }
+    requires { ⌜ (h .nodes ≤ NODES) × (h .a + h .b ≤ 2 ^ 60) × (1 ≤ word) × Remembers (now book) (now certificate) (now w) base NODES last × Tracked (now w) base h ⌝ }
+    ensures { λ r. ⌜ Passes (now (book .entry)) (now (certificate .entry)) (now (w .entry)) base (walked (now (book .entry)) (now (certificate .entry)) (word - 1) .met) h r ⌝ }
+{
+    if is_repeated(w, base, h, word, last) {
+        return Passed {
+            held: Held {
+                nodes: h.nodes + last.count,
+                parts: h.parts,
+                code: 0,
+                a: 0,
+                b: 0,
+            },
+            last,
+        };
+    }
+    let k = hold_term(book, certificate, w, base, h, (word - 1) as usize);
+    Passed {
+        held: k,
+        last: remembered(h, k, word, last),
+    }
+}
+
 // A node of an instance: a listed variable's term as it stands, any other node reindexed.
 fn hold_filled(
     book: &[u8],
@@ -49,16 +126,20 @@ fn hold_filled(
     i: u16,
     j: u16,
     fills: usize,
-) -> Held
+    last: Spelt,
+) -> Passed
     requires { ⌜ Room base (h .parts) (now w) ⌝ }
-    requires { ⌜ (h .nodes ≤ NODES) × (h .a + h .b ≤ 2 ^ 60) × (fills + 64 ≤ length (now w)) ⌝ }
-    ensures { λ r. ⌜ Came (now (w .entry)) base (flatMap (filled (now (book .entry)) (now (certificate .entry)) (now (w .entry)) fills i j) (single header)) h r ⌝ }
+    requires { ⌜ (h .nodes ≤ NODES) × (h .a + h .b ≤ 2 ^ 60) × (fills + 64 ≤ length (now w)) × Remembers (now book) (now certificate) (now w) base NODES last × Tracked (now w) base h ⌝ }
+    ensures { λ r. ⌜ Passes (now (book .entry)) (now (certificate .entry)) (now (w .entry)) base (flatMap (filled (now (book .entry)) (now (certificate .entry)) (now (w .entry)) fills i j) (single header)) h r ⌝ }
 {
     let word = word_of(w, fills, header);
     if word == 0 {
-        return table::second::hold(w, base, h, item_of(header, i, j));
+        return Passed {
+            held: table::second::hold(w, base, h, item_of(header, i, j)),
+            last,
+        };
     }
-    hold_term(book, certificate, w, base, h, (word - 1) as usize)
+    hold_listed(book, certificate, w, base, h, word, last)
 }
 
 // The instance of the term at a bit of s, reindexed by (i, j) and filled by terms of the certificate as the words at `fills` tell, held against
@@ -86,12 +167,19 @@ pub fn hold_instance(
         a: 0,
         b: 0,
     };
+    let mut last = Spelt {
+        word: 0,
+        from: 0,
+        count: 0,
+    };
     let mut p = Stand { at, pending: 1 };
     let mut left: usize = 256;
     while !is_over(p, left) {
         let header = header_of(book, bits::view(s, p.at), p.at, bits::room(s));
         let stand = next(header, p.pending);
-        h = hold_filled(book, certificate, w, base, h, header, i, j, fills);
+        let passed = hold_filled(book, certificate, w, base, h, header, i, j, fills, last);
+        h = passed.held;
+        last = passed.last;
         if h.nodes > NODES {
             return Outcome::Full;
         }

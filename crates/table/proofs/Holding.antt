@@ -194,7 +194,7 @@ module _ {w : List ℕ} {base n : ℕ} {h k : Held} (z : AtRest w base h k) wher
         told = λ ns x. (
           fits ns x,
           ap (λ i. reverse (stack w base i)) (sym (whole ns x))
-              ∙ ap reverse (parts-none (z .told n ns x .parts) q (omega (arith, whole ns x))),
+              ∙ ap reverse (parts-none (z .told n ns x .parts) (omega (arith, whole ns x))),
         );
       }
 

@@ -7,6 +7,8 @@ pub mod Sides
 pub mod Reindexing
 pub mod Answer
 pub mod Parting
+pub mod Repeats
 pub mod Holding
+pub mod Copies
 pub mod Marks
 pub mod Zeros

@@ -27,13 +27,13 @@ module _ {w : List ℕ} {base n : ℕ} where
   parts-low (alike x l e) = parts-low x
   parts-low (here x l d e) = omega (arith, parts-low x)
 
-  -- no node differs
-  pub parts-none : {ns : List (Node Exp)} {p : ℕ} → Parts w base n ns p → p ≡ n → length ns ≤ n → stack w base (length ns) ≡ ns
+  -- as far as no node differs
+  pub parts-none : {ns : List (Node Exp)} {p : ℕ} → Parts w base n ns p → length ns ≤ p → stack w base (length ns) ≡ ns
   unfolding stack
-  parts-none (none e) q l = refl
-  parts-none (before x b) q l = absurd (omega arith)
-  parts-none (alike x b e) q l = ap₂ _∷_ e (parts-none x q (omega arith))
-  parts-none (here x b d e) q l = absurd (omega (arith, parts-low x))
+  parts-none (none e) l = refl
+  parts-none (before x b) l = absurd (omega arith)
+  parts-none (alike x b e) l = ap₂ _∷_ e (parts-none x (omega arith))
+  parts-none (here x b d e) l = absurd (omega arith)
 
   -- one does
   pub parts-some : {ns : List (Node Exp)} {p : ℕ} → Parts w base n ns p → p < n → stack w base (length ns) ≢ ns

@@ -4,4 +4,5 @@ pub mod Nodes
 pub mod Sides
 pub mod Marks
 pub mod Answer
+pub mod Repeats
 pub mod Second

@@ -7,10 +7,11 @@ use mathlib.Core.List.{List, [], _∷_, reverse}
 use lib.ListN.{length}
 use Rattle.patterns.specs.Term.{Node, npow}
 use Rattle.patterns.specs.First.{Exp, exponents}
-use Rattle.patterns.specs.Push.{put, pushes}
+use Rattle.patterns.specs.Push.{pushes}
 use Rattle.table.specs.Places.{NODES}
 use Rattle.table.specs.Nodes.{nodeAt, side, load}
 use Rattle.table.specs.Answer.{Says}
+use Rattle.table.specs.Repeats.{Closed}
 use Rattle.table.specs.declared.Held.{Held}
 use Rattle.table.specs.declared.Outcome.{Outcome}
 use Rattle.table.specs.declared.Outcome.the-variants.{Same, Other, Full}
@@ -52,7 +53,7 @@ pub record Tallied (w : List ℕ) (base n : ℕ) (ns : List (Node Exp)) (h : Hel
 -- the nodes that have come, merged, are those of a stack: all are settled, and a power that comes next is a node of its own; or all but a power on
 -- top, that waits for its like
 pub data Tracks (w : List ℕ) (base n : ℕ) (h : Held) : List (Node Exp) → Type 0 where
-  rests : {ns : List (Node Exp)} → h .code ≡ 0 → ((s : ℕ) (e : Exp) → put exponents s e ns ≡ npow s e ∷ ns) → Tallied w base n ns h
+  rests : {ns : List (Node Exp)} → h .code ≡ 0 → Closed ns → Tallied w base n ns h
       → Tracks w base n h ns
   waits : {ns ms : List (Node Exp)} (s : ℕ) → h .code ≡ 3 * s + 2 → ns ≡ npow s (h .a, h .b) ∷ ms → Tallied w base n ms h → Tracks w base n h ns
 

@@ -2,12 +2,14 @@
 pub mod second;
 
 ghost use mathlib.Core.Path.{_≡_};
-ghost use mathlib.Core.List.{[], _∷_};
+ghost use mathlib.Core.List.{[], _∷_, _++_};
 ghost use Prim.Native.Nat.{_+_, _*_, _<_, _≤_, _^_};
 ghost use lib.ListN.{length, replicate};
 ghost use Rattle.patterns.specs.Term.{npow};
 ghost use Rattle.table.specs.Nodes.{nodeOf, withNode, stack, load, topCode};
 ghost use Rattle.table.specs.Sides.{node-told, Coded, Reindexed, Room, Became, Pushes};
+ghost use Rattle.table.specs.Answer.{Assures};
+ghost use Rattle.table.specs.Repeats.{Closed, part};
 
 // The places of the table: where each rule begins, where each line's left begins, and where its right does; the words of a filling that
 // stays empty, of the line's own filling, of a use's; and the first side of a comparison. The second side has no place.
@@ -148,6 +150,38 @@ pub fn push(w: &mut [u64], base: usize, n: usize, node: Item) -> Pushed
         Item::Plain(code) => store(w, base, n, code, 0, 0),
         Item::Power { symbol: s, a, b } => push_power(w, base, n, s, a, b),
     }
+}
+
+// Whether nothing merges with the last of n nodes: it is no power, or there is none.
+pub fn is_closed(w: &[u64], base: usize, n: usize) -> bool
+    requires { ⌜ Room base n (now w) ⌝ }
+    ensures { λ r. ⌜ Assures (Closed (stack (now (w .entry)) base n)) r ⌝ }
+{
+    if top_code(w, base, n) % 3 == 2 {
+        return false;
+    }
+    true
+}
+
+// The `count` nodes from number `from` on once more, behind n others.
+pub fn copy(w: &mut [u64], base: usize, n: usize, from: usize, count: usize) -> Pushed
+    requires { ⌜ Room base n (now w) ⌝ }
+    requires { ⌜ from + count ≤ n ⌝ }
+    ensures { λ r. ⌜ Became base (part (now (w .entry)) base from count ++ stack (now (w .entry)) base n) (now (w .entry)) (now (w .exit)) r ⌝ }
+{
+    if n + count > NODES {
+        return Pushed::NoRoom;
+    }
+    let mut k: usize = 0;
+    while k < count {
+        let at = base + 3 * (from + k);
+        let code = w[at];
+        let a = w[at + 1];
+        let b = w[at + 2];
+        write_node(w, base + 3 * (n + k), code, a, b);
+        k += 1;
+    }
+    Pushed::Count(n + count)
 }
 
 // Every word 0.

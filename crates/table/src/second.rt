@@ -9,8 +9,11 @@ ghost use Prim.Native.Nat.{_+_, _%_, _<_, _≤_, _^_};
 ghost use mathlib.Core.List.{[], _∷_};
 ghost use lib.ListN.{length};
 ghost use Rattle.patterns.specs.Term.{npow};
-ghost use Rattle.table.specs.Nodes.{nodeOf, load};
+ghost use Rattle.table.specs.Nodes.{nodeOf, nodeAt, load};
 ghost use Rattle.table.specs.Sides.{node-told, Coded, Room};
+ghost use Rattle.table.specs.Places.{NODES};
+ghost use Rattle.table.specs.Answer.{Assures};
+ghost use Rattle.table.specs.Repeats.{part};
 ghost use Rattle.table.specs.Second.{IsPower, PartsNext, PowerPartsNext, AtRest, CameOne, Concludes};
 
 // Whether the node at a place is the power that three words tell.
@@ -137,6 +140,39 @@ pub fn hold(w: &[u64], base: usize, h: Held, node: Item) -> Held
         Item::Plain(code) => hold_plain(w, base, h, code),
         Item::Power { symbol: s, a, b } => hold_power(w, base, h, s, a, b),
     }
+}
+
+// Whether the nodes at two places have the same words.
+fn is_same(w: &[u64], p: usize, q: usize) -> bool
+    requires { ⌜ (p + 3 ≤ length (now w)) × (q + 3 ≤ length (now w)) ⌝ }
+    ensures { λ r. ⌜ Assures (nodeAt (now (w .entry)) p ≡ nodeAt (now (w .entry)) q) r ⌝ }
+{
+    if w[p] != w[q] {
+        return false;
+    }
+    if w[p + 1] != w[q + 1] {
+        return false;
+    }
+    if w[p + 2] != w[q + 2] {
+        return false;
+    }
+    true
+}
+
+// Whether the `count` nodes from number n on are those from number `from` on.
+pub fn again(w: &[u64], base: usize, n: usize, from: usize, count: usize) -> bool
+    requires { ⌜ Room base (n + count) (now w) ⌝ }
+    requires { ⌜ from + count ≤ NODES ⌝ }
+    ensures { λ r. ⌜ Assures (part (now (w .entry)) base n count ≡ part (now (w .entry)) base from count) r ⌝ }
+{
+    let mut k: usize = 0;
+    while k < count {
+        if !is_same(w, base + 3 * (n + k), base + 3 * (from + k)) {
+            return false;
+        }
+        k += 1;
+    }
+    true
 }
 
 // What a second side amounts to of which no node is left, beside the n nodes that are stored.

@@ -1,11 +1,11 @@
--- `instances::spell` meets its contract. The loop's invariant: the nodes met so far were pushed.
+-- `instances::first::spell` meets its contract. The loop's invariant: the nodes met so far were pushed.
 use borrow.Author.Needs.{needs}
 use native.Mathlib.Omega.{arith}
 use Rattle.instances.specs.Filled.{itself}
 use Rattle.instances.proofs.Goings.{meets, is-ended, some-pending}
 use Rattle.instances.proofs.Pushings.{took-plain, Pushing, pushing-start, pushing-over, pushing-full, pushing-on, spelling-fits, spelled}
-use Rattle.instances.proofs.spell.Statement.{statement}
-use Rattle.instances.proofs.spell.Tie as tie
+use Rattle.instances.proofs.first.spell.Statement.{statement}
+use Rattle.instances.proofs.first.spell.Tie as tie
 
 abbrev Inv-loop : tie.InvT-loop
 Inv-loop book s w₀ base count at n₀ p₀ left₀ w n p left = Pushing itself book s at base count w₀ w n left p
