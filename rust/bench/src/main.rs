@@ -1,8 +1,11 @@
 //! Times the proved judge between the second one and the swift one, on the same inputs in
 //! one run; and the proved `covers` beside the second one.
 //!
-//!     bench [SECONDS]       the tables; so many seconds for each input (3)
+//!     bench [SECONDS]          the tables; so many seconds for each input (3)
 //!     bench once JUDGE NAME    judges one input once, for a profiler
+//!     bench once clearing      clears a work table once, for a profiler
+//!     bench ratios [--goals]   counts instructions by callgrind, proved beside swift;
+//!                              with --goals a ratio beyond its goal is a failure (1)
 //!
 //! JUDGE is second, proved or, of a judgement, swift. All three are lent a work table of 8,192 numbers and
 //! leave zeros in it. The swift judge's own memory is allocated before it is timed.
@@ -12,6 +15,7 @@
 
 mod calls;
 mod nodes;
+mod ratios;
 
 use nodes::{nodes_built, nodes_read};
 use std::hint::black_box;
@@ -25,9 +29,12 @@ const INPUTS: &str = include_str!("../inputs.txt");
 fn main() -> ExitCode {
     let arguments: Vec<String> = std::env::args().skip(1).collect();
     let words: Vec<&str> = arguments.iter().map(String::as_str).collect();
-    let vectors = parse_vectors(INPUTS).expect("the inputs are what they say");
+    let vectors = inputs();
     match words[..] {
         [] => tables(&vectors, 3.0),
+        ["ratios"] => return ratios::ratios(&vectors, false),
+        ["ratios", "--goals"] => return ratios::ratios(&vectors, true),
+        ["once", "clearing"] => ratios::clear(),
         [seconds] => match seconds.parse() {
             Ok(seconds) => tables(&vectors, seconds),
             Err(_) => return help(&vectors),
@@ -45,12 +52,17 @@ fn main() -> ExitCode {
     ExitCode::SUCCESS
 }
 
+fn inputs() -> Vec<Vector> {
+    parse_vectors(INPUTS).expect("the inputs are what they say")
+}
+
 fn help(vectors: &[Vector]) -> ExitCode {
     let asked = calls::inputs();
     let all = vectors.iter().chain(&asked);
     let names: Vec<&str> = all.map(|vector| vector.name.as_str()).collect();
     let judges = JUDGES.join("|");
-    eprintln!("bench [SECONDS]\nbench once {judges} NAME\nNAME: {}", names.join(", "));
+    eprintln!("bench [SECONDS]\nbench once {judges} NAME\nbench once clearing");
+    eprintln!("bench ratios [--goals]\nNAME: {}", names.join(", "));
     ExitCode::from(2)
 }
 
@@ -103,10 +115,14 @@ fn tables(vectors: &[Vector], seconds: f64) {
     calls::table(seconds);
 }
 
-fn table(vectors: &[Vector], seconds: f64) {
+fn note_of_assertions() {
     if cfg!(debug_assertions) {
         println!("built with debug assertions: use --profile bench-release");
     }
+}
+
+fn table(vectors: &[Vector], seconds: f64) {
+    note_of_assertions();
     println!(
         "| input | bytes | nodes read | nodes built | second, µs | proved, µs | swift, µs | \
          proved, nodes/s | proved, bytes/s | second : proved | proved : swift |"

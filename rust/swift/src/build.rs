@@ -2,13 +2,12 @@
 
 use crate::filling::Filling;
 use crate::node::{self, VARIABLES};
-use crate::store::{Span, Store, CHUNK, TERM_NODES};
+use crate::store::{Span, Store, CHUNK, NODES};
 
 /// "A side whose normal form has more than 1,024 nodes is refused with 16".
 const SIDE_NODES: usize = 1_024;
-/// A side is tested after each variable and at its end. Until then it can grow by the
-/// nodes of its pattern, by a term that is put for a variable, and by the rest of a chunk.
-const ROOM: usize = SIDE_NODES + 2 * TERM_NODES + CHUNK;
+/// Where a side that isn't too large has room for the rest of a chunk, too.
+const ROOM: usize = SIDE_NODES + CHUNK;
 
 /// The index pair that changes nothing.
 pub const AS_IT_IS: u64 = node::pair(1, 0);
@@ -43,39 +42,36 @@ impl Side {
         } else {
             build::<false>(&mut self.nodes, &store.nodes, pattern, pair, filling)
         };
-        self.nodes[..SIDE_NODES].get(..length)
+        self.nodes[..SIDE_NODES].get(..length?)
     }
 }
 
-/// Builds an instance node by node and answers how many there are, or, if there are too
-/// many, some number that is too large. "drop the zero powers and add up neighbours of
-/// the same symbol": a power's neighbour below is always the next node.
+/// Builds an instance node by node and answers how many there are; nothing if they don't
+/// have room. "drop the zero powers and add up neighbours of the same symbol": a power's
+/// neighbour below is always the next node.
 fn build<const REINDEXED: bool>(
     room: &mut [u64; ROOM],
-    nodes: &[u64],
+    nodes: &[u64; NODES],
     pattern: &[u64],
     pair: u64,
     filling: &Filling,
-) -> usize {
+) -> Option<usize> {
     let mut out = Out { room, length: 0 };
     // The node of the pattern that was put last, if nothing was put for a variable since.
     let mut above = NOTHING;
     for node in pattern {
         let node = *node;
         if node < VARIABLES {
-            out.put_term(nodes, filling.term(node), above);
+            out.put_term(nodes, filling.term(node), above)?;
             above = NOTHING;
-            if out.length > SIDE_NODES {
-                break;
-            }
         } else if REINDEXED && node::is_power(node) {
-            above = out.put_power(node::reindexed(node, pair), above);
+            above = out.put_power(node::reindexed(node, pair), above)?;
         } else {
-            out.put(node);
+            out.put(node)?;
             above = node;
         }
     }
-    out.length
+    Some(out.length)
 }
 
 /// The nodes built so far.
@@ -86,47 +82,51 @@ struct Out<'a> {
 
 impl Out<'_> {
     #[inline(always)]
-    fn put(&mut self, node: u64) {
-        self.room[self.length] = node;
+    fn put(&mut self, node: u64) -> Option<()> {
+        *self.room.get_mut(self.length)? = node;
         self.length += 1;
+        Some(())
     }
 
     /// Puts a power below the node that was put last, and answers which one that is then.
     #[inline(always)]
-    fn put_power(&mut self, power: u64, above: u64) -> u64 {
+    fn put_power(&mut self, power: u64, above: u64) -> Option<u64> {
         let exponents = node::exponents(power);
         if exponents == 0 {
-            return above;
+            return Some(above);
         }
         if node::name(power) == node::name(above) {
             self.room[self.length - 1] += exponents;
         } else {
-            self.put(power);
+            self.put(power)?;
         }
-        power
+        Some(power)
     }
 
     /// Puts a whole term of a filling below the node that was put last. It is normal, so
     /// only its root can be like that node. Of a short term a whole chunk is copied, of
     /// which a part counts.
     #[inline(always)]
-    fn put_term(&mut self, nodes: &[u64], term: Span, above: u64) {
-        let (start, length) = (term.start as usize, term.length as usize);
-        let chunk = &nodes[start..start + CHUNK];
-        if node::is_power(chunk[0]) && node::name(chunk[0]) == node::name(above) {
-            self.room[self.length - 1] += node::exponents(chunk[0]);
-            self.copy(&nodes[start + 1..start + length]);
+    fn put_term(&mut self, nodes: &[u64; NODES], term: Span, above: u64) -> Option<()> {
+        let (start, length) = (usize::from(term.start), usize::from(term.length));
+        let root = nodes[start];
+        if node::is_power(above) && node::name(root) == node::name(above) {
+            self.room[self.length - 1] += node::exponents(root);
+            self.copy(&nodes[start + 1..start + length])
         } else if length <= CHUNK {
-            self.room[self.length..self.length + CHUNK].copy_from_slice(chunk);
+            let chunk = &nodes[start..start + CHUNK];
+            self.room.get_mut(self.length..self.length + CHUNK)?.copy_from_slice(chunk);
             self.length += length;
+            Some(())
         } else {
-            self.copy(&nodes[start..start + length]);
+            self.copy(&nodes[start..start + length])
         }
     }
 
-    fn copy(&mut self, term: &[u64]) {
-        self.room[self.length..self.length + term.len()].copy_from_slice(term);
+    fn copy(&mut self, term: &[u64]) -> Option<()> {
+        self.room.get_mut(self.length..self.length + term.len())?.copy_from_slice(term);
         self.length += term.len();
+        Some(())
     }
 }
 
@@ -151,10 +151,10 @@ mod tests {
     const Y: u64 = 1;
 
     fn put(store: &mut Store, term: &[u64]) -> Span {
-        let start = store.filled;
-        store.nodes[start..][..term.len()].copy_from_slice(term);
-        store.filled += term.len();
-        Span { start: start as u32, length: term.len() as u32 }
+        let (start, length) = (store.filled, term.len() as u16);
+        store.nodes[usize::from(start)..][..term.len()].copy_from_slice(term);
+        store.filled += length;
+        Span { start, length }
     }
 
     /// An instance, by an index pair and the terms of x and y.

@@ -39,5 +39,5 @@ impl Filling {
 
 /// "A variable that isn't listed stays itself."
 fn itself(variable: usize) -> Span {
-    Span { start: variable as u32, length: 1 }
+    Span { start: variable as u16, length: 1 }
 }

@@ -21,16 +21,30 @@ const NAME_FROM: u32 = 2 * EXPONENT_BITS;
 const EXPONENTS: u64 = (1 << NAME_FROM) - 1;
 const B: u64 = (1 << EXPONENT_BITS) - 1;
 
+/// a and b in a file.
+const FILE_BITS: u32 = 12;
+pub const FILE_B: u64 = (1 << FILE_BITS) - 1;
+
 /// A symbol without its arguments, from a file's bits that begin with its tag.
 #[inline(always)]
 pub fn symbol_in(bits: u64) -> u64 {
     bits & !EXPONENTS
 }
 
-/// A power, from a file's bits that begin with its tag.
+/// a and b, one beside the other, as a file has them; from its bits that begin with a
+/// power's tag.
+#[inline(always)]
+pub fn exponents_in(bits: u64) -> u64 {
+    bits >> (64 - 2 - 8 - 2 * FILE_BITS) & (1 << (2 * FILE_BITS)) - 1
+}
+
+/// A power, from a file's bits that begin with its tag. By the product a moves from behind
+/// 12 bits to behind 27.
 #[inline(always)]
 pub fn power_in(bits: u64) -> u64 {
-    bits & !EXPONENTS | bits >> 15 & 0xFFF << EXPONENT_BITS | bits >> 30 & 0xFFF
+    let exponents = exponents_in(bits);
+    let a = exponents >> FILE_BITS;
+    symbol_in(bits) + (exponents + a * ((1 << EXPONENT_BITS) - (1 << FILE_BITS)))
 }
 
 /// Kind and symbol.

@@ -1,6 +1,8 @@
 //! What is known of both files once they are decoded: flat arrays, used again at each
 //! call.
 
+use std::ops::Range;
+
 /// "rule book over 16,384 bytes or certificate over 32,768"
 pub const BOOK_BYTES: usize = 16_384;
 pub const CERTIFICATE_BYTES: usize = 32_768;
@@ -10,16 +12,25 @@ pub const TERM_NODES: usize = 256;
 pub const CHUNK: usize = 8;
 /// The variables 0 to 63 stand before all other nodes, each as a term of its own.
 pub const VARIABLES: usize = 64;
-/// No node is shorter than 8 bits. Behind the last, room for a whole term and a chunk.
-const NODES: usize = VARIABLES + BOOK_BYTES + CERTIFICATE_BYTES + TERM_NODES + CHUNK;
-/// The arity of a symbol that the book hasn't.
-pub const NO_SYMBOL: u8 = 0xFF;
+/// No node is shorter than 8 bits, so that 16 bits are enough for a node's place. There is
+/// room for a whole term at each place, and so for a chunk.
+pub const NODES: usize = 1 << 16 | TERM_NODES;
+const _: () = assert!(VARIABLES + BOOK_BYTES + CERTIFICATE_BYTES + TERM_NODES < 1 << 16);
+/// How many names there are: see `node`.
+pub const NAMES: usize = 1 << 10;
+/// The names with the tags 1 and 2, which the book decides on.
+const BOOK_NAMES: Range<usize> = 1 << 8..3 << 8;
+/// Shapes, beside the arities of symbols: the one argument of a power, a variable, and
+/// what no node has.
+pub const POWER: u8 = 1;
+pub const VARIABLE: u8 = 9;
+pub const NO_SHAPE: u8 = 0xFF;
 
 /// Where a term's nodes stand. The empty mark has none.
 #[derive(Clone, Copy, Default)]
 pub struct Span {
-    pub start: u32,
-    pub length: u32,
+    pub start: u16,
+    pub length: u16,
 }
 
 /// A variable of a filling and its term.
@@ -84,10 +95,12 @@ pub struct Closing {
 }
 
 pub struct Store {
-    pub arities: [u8; 256],
+    /// The shape of a node by its name, in which a variable's last two bits are the next
+    /// node's first.
+    pub shapes: [u8; NAMES],
     /// The nodes of all terms; `filled` of them are known.
-    pub nodes: Vec<u64>,
-    pub filled: usize,
+    pub nodes: Box<[u64; NODES]>,
+    pub filled: u16,
     pub rules: Vec<Rule>,
     pub calls: Vec<Span>,
     pub lines: Vec<Line>,
@@ -97,12 +110,15 @@ pub struct Store {
 
 impl Store {
     pub fn new() -> Store {
-        let mut nodes = vec![0; NODES];
+        let mut shapes = [NO_SHAPE; NAMES];
+        shapes[..BOOK_NAMES.start].fill(VARIABLE);
+        let nodes = vec![0; NODES].into_boxed_slice();
+        let mut nodes: Box<[u64; NODES]> = nodes.try_into().expect("so many nodes");
         (0..).zip(&mut nodes[..VARIABLES]).for_each(|(variable, node)| *node = variable);
         Store {
-            arities: [NO_SYMBOL; 256],
+            shapes,
             nodes,
-            filled: VARIABLES,
+            filled: VARIABLES as u16,
             rules: Vec::with_capacity(255),
             calls: Vec::with_capacity(255 * 9),
             lines: Vec::with_capacity(255),
@@ -113,8 +129,8 @@ impl Store {
     }
 
     pub fn clear(&mut self) {
-        self.arities = [NO_SYMBOL; 256];
-        self.filled = VARIABLES;
+        self.shapes[BOOK_NAMES].fill(NO_SHAPE);
+        self.filled = VARIABLES as u16;
         self.rules.clear();
         self.calls.clear();
         self.lines.clear();
@@ -122,8 +138,15 @@ impl Store {
         self.entries.clear();
     }
 
+    /// "Tag 1: symbol, 8 bits, arity not 1. Tag 2: power, symbol 8 bits of arity 1".
+    #[inline(always)]
+    pub fn set_arity(&mut self, symbol: u32, arity: u8) {
+        let tag = if arity == POWER { 2 } else { 1 };
+        self.shapes[(tag << 8 | symbol & 0xFF) as usize] = arity;
+    }
+
     pub fn term(&self, span: Span) -> &[u64] {
-        &self.nodes[span.start as usize..][..span.length as usize]
+        &self.nodes[usize::from(span.start)..][..usize::from(span.length)]
     }
 
     pub fn entries(&self, entries: Entries) -> &[Entry] {

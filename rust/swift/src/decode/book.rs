@@ -10,7 +10,7 @@ pub fn decode_book(book: &[u8], store: &mut Store) -> Result<(), Fault> {
     let symbols = bits.take(8)?;
     for symbol in 0..symbols {
         let arity = bits.take_if(4, |arity| arity <= 8)?;
-        store.arities[symbol as usize] = arity as u8;
+        store.set_arity(symbol, arity as u8);
     }
     for _ in 0..bits.take(8)? {
         rule(&mut bits, store)?;

@@ -2,7 +2,7 @@
 
 use crate::bits::{Bits, Fault};
 use crate::node;
-use crate::store::{Span, Store, TERM_NODES};
+use crate::store::{Span, Store, NAMES, NO_SHAPE, POWER, TERM_NODES, VARIABLE};
 
 const VARIABLE_BITS: u32 = 2 + 6;
 const SYMBOL_BITS: u32 = 2 + 8;
@@ -13,35 +13,57 @@ const POWER_BITS: u32 = 2 + 8 + 12 + 12;
 #[inline]
 pub fn term<const IN_BOOK: bool>(bits: &mut Bits, store: &mut Store) -> Result<Span, Fault> {
     let start = store.filled;
-    let room = store.nodes[start..].first_chunk_mut().expect("room for a term");
-    let length = nodes::<IN_BOOK>(bits, &store.arities, room)?;
+    let room = store.nodes[usize::from(start)..].first_chunk_mut().expect("room for a term");
+    let length = nodes::<IN_BOOK>(bits, &store.shapes, room)? as u16;
     store.filled = start + length;
-    Ok(Span { start: start as u32, length: length as u32 })
+    Ok(Span { start, length })
 }
 
 /// "a node is followed at once by its arguments": goes on while some are to come. Answers
 /// how many nodes there are.
 fn nodes<const IN_BOOK: bool>(
     bits: &mut Bits,
-    arities: &[u8; 256],
+    shapes: &[u8; NAMES],
     room: &mut [u64; TERM_NODES],
 ) -> Result<usize, Fault> {
     let mut here = *bits;
     let mut to_come = 1;
-    // The node before this one: if it is a power, it stands directly above.
+    // The name of the node before this one: if it is a power, it stands directly above.
     let mut before = 0;
     let mut place = 0;
     while place < TERM_NODES {
         let no_variable = IN_BOOK && place == 0;
-        let found = match quick::<IN_BOOK>(&here, arities, before, no_variable) {
-            Some(found) => found,
-            None => careful::<IN_BOOK>(here, arities, before, no_variable)?,
+        let (window, shape) = match here.whole_window() {
+            Some(window) => (window, shapes[node::name(window) as usize]),
+            None => (0, NO_SHAPE),
         };
-        here.at += found.width;
-        before = found.node;
-        room[place] = found.node;
+        let name = node::name(window);
+        let exponents = node::exponents_in(window);
+        let level = !IN_BOOK || exponents <= node::FILE_B;
+        if shape == POWER && name != before && exponents != 0 && level {
+            // As many arguments are to come as before.
+            room[place] = node::power_in(window);
+            place += 1;
+            here.at += POWER_BITS;
+            before = name;
+            continue;
+        }
+        if shape == VARIABLE && !no_variable {
+            room[place] = window >> 56;
+            here.at += VARIABLE_BITS;
+            to_come -= 1;
+        } else if shape <= 8 && shape != POWER {
+            room[place] = node::symbol_in(window);
+            here.at += SYMBOL_BITS;
+            to_come = to_come - 1 + u32::from(shape);
+        } else {
+            let found = careful::<IN_BOOK>(here, shapes, before, no_variable)?;
+            room[place] = found.node;
+            here.at += found.width;
+            to_come = to_come - 1 + found.arity;
+        }
+        before = node::name(room[place]);
         place += 1;
-        to_come = to_come - 1 + found.arity;
         if to_come == 0 {
             *bits = here;
             return Ok(place);
@@ -58,45 +80,18 @@ struct Found {
     width: u32,
 }
 
-/// The next node, if it is good and the file doesn't end soon.
-#[inline(always)]
-fn quick<const IN_BOOK: bool>(
-    bits: &Bits,
-    arities: &[u8; 256],
-    before: u64,
-    no_variable: bool,
-) -> Option<Found> {
-    let window = bits.whole_window()?;
-    let tag = window >> 62;
-    let arity = || u32::from(arities[(window >> 54) as usize & 0xFF]);
-    if tag == 2 {
-        let node = node::power_in(window);
-        let good = arity() == 1
-            && node::exponents(node) != 0
-            && node::name(node) != node::name(before)
-            && (!IN_BOOK || node::is_level(node));
-        good.then_some(Found { node, arity: 1, width: POWER_BITS })
-    } else if tag == 0 {
-        let node = window >> 56;
-        (!no_variable).then_some(Found { node, arity: 0, width: VARIABLE_BITS })
-    } else {
-        let (node, arity) = (node::symbol_in(window), arity());
-        let good = tag == 1 && arity != 1 && arity <= 8;
-        good.then_some(Found { node, arity, width: SYMBOL_BITS })
-    }
-}
-
 /// The next node, field by field.
 #[cold]
 #[inline(never)]
 fn careful<const IN_BOOK: bool>(
     mut bits: Bits,
-    arities: &[u8; 256],
+    shapes: &[u8; NAMES],
     before: u64,
     no_variable: bool,
 ) -> Result<Found, Fault> {
     let window = bits.window();
-    let arity = |symbol: u32| u32::from(arities[symbol as usize]);
+    let name = node::name(window);
+    let shape = shapes[name as usize];
     // "Tag 3 is refused."
     match bits.take_if(2, |tag| tag != 3 && !(no_variable && tag == 0))? {
         0 => {
@@ -104,15 +99,14 @@ fn careful<const IN_BOOK: bool>(
             Ok(Found { node, arity: 0, width: VARIABLE_BITS })
         }
         1 => {
-            let symbol = bits.take_if(8, |symbol| arity(symbol) != 1 && arity(symbol) <= 8)?;
-            let (node, arity) = (node::symbol_in(window), arity(symbol));
-            Ok(Found { node, arity, width: SYMBOL_BITS })
+            bits.take_if(8, |_| shape != NO_SHAPE)?;
+            Ok(Found { node: node::symbol_in(window), arity: shape.into(), width: SYMBOL_BITS })
         }
         _ => {
             let at = bits.at;
-            bits.take_if(8, |symbol| arity(symbol) == 1)?;
+            bits.take_if(8, |_| shape != NO_SHAPE)?;
             // 5 "at the symbol below its like, or at b if a = b = 0"
-            if node::name(window) == node::name(before) {
+            if name == before {
                 return Fault::new(5, at);
             }
             let a = bits.take_if(12, |a| !IN_BOOK || a == 0)?;
