@@ -3,6 +3,8 @@
 use crate::files::name_of;
 use generate::asked::{labels, wanted};
 use generate::calls::Asking;
+use generate::edged;
+use generate::edges::Edged;
 use generate::parted;
 use generate::tally::part_in_words;
 use generate::writing::Task;
@@ -53,6 +55,12 @@ impl Coverage {
     pub fn asked(&mut self, asking: &Asking, coverage: &second::Coverage) {
         for label in labels(asking, coverage) {
             self.count(format!("covers: {label}"));
+        }
+    }
+
+    pub fn edged(&mut self, edged: &Edged, verdict: &Verdict) {
+        for label in edged::labels(edged, verdict) {
+            self.count(format!("edge: {label}"));
         }
     }
 
@@ -127,6 +135,11 @@ pub fn wanted_of_judging() -> Vec<String> {
 pub fn wanted_of_calls() -> Vec<String> {
     let own = wanted().into_iter().chain([" 1 neither".to_string()]);
     own.map(|label| format!("covers: {label}")).collect()
+}
+
+/// What pairs at the edges of reading have to meet.
+pub fn wanted_of_edges() -> Vec<String> {
+    edged::wanted().into_iter().map(|label| format!("edge: {label}")).collect()
 }
 
 /// Every refusal number and place that reading and writing can give.

@@ -1,7 +1,8 @@
 //! All judges on one input.
 
 use crate::lent::{noise, Lent};
-use crate::proved::Side;
+use crate::proved::{Proved, Side};
+use crate::swiftly::Swift;
 use crate::Compared;
 use generate::hex::hex;
 use generate::inputs::{Input, Kind};
@@ -66,6 +67,20 @@ pub fn judge_both(
 ) -> Compared<Verdict> {
     let judge: &mut Judging = &mut |book, certificate, work| side.judge(book, certificate, work);
     judge_all(&mut [("side", judge)], book, certificate, random)
+}
+
+/// The same with the proved judge and the swift one beside the second.
+pub fn judge_by_three(
+    swift: &mut Swift,
+    book: &[u8],
+    certificate: &[u8],
+    random: &mut Random,
+) -> Compared<Verdict> {
+    let judges: &mut [(&str, &mut Judging)] = &mut [
+        ("proved", &mut |book, certificate, work| Proved.judge(book, certificate, work)),
+        ("swift", &mut |book, certificate, work| swift.judge(book, certificate, work)),
+    ];
+    judge_all(judges, book, certificate, random)
 }
 
 /// Judges once, and compares the verdict and all lent memory.

@@ -5,6 +5,7 @@
 pub mod answers;
 pub mod calls;
 pub mod coverage;
+pub mod edges;
 pub mod files;
 pub mod follow;
 pub mod judging;

@@ -1,21 +1,24 @@
 //! The comparison as a program. It prints how many inputs met each refusal number,
-//! place and part, and each way in which two sides part or are equal, and closes with
-//! 'N passed, 0 failed': one for each kind of run, and one if each of these was met. It
-//! fails at the first difference.
+//! place and part, each way in which two sides part or are equal, and each edge of reading,
+//! and closes with 'N passed, 0 failed': one for each kind of run, and one if each of these
+//! was met. It fails at the first difference.
 
 use compare::answers::{answers_in_numbers, coverage_in_numbers};
 use compare::calls::ask_both;
 use compare::coverage::{
-    wanted_of_calls, wanted_of_files, wanted_of_judging, wanted_of_the_program, Coverage,
+    wanted_of_calls, wanted_of_edges, wanted_of_files, wanted_of_judging, wanted_of_the_program,
+    Coverage,
 };
+use compare::edges::at_an_edge;
 use compare::files::perform_both;
 use compare::follow::Followed;
-use compare::judging::{files_of, judge_all, Judging};
+use compare::judging::{files_of, judge_by_three};
 use compare::program::{run_both, Feeding};
-use compare::proved::{Proved, Side};
+use compare::proved::Proved;
 use compare::swiftly::Swift;
 use compare::Compared;
 use generate::calls::Calls;
+use generate::edges::Edges;
 use generate::inputs::{Inputs, Kind};
 use generate::random::Random;
 use generate::writing::Tasks;
@@ -25,11 +28,12 @@ use std::path::{Path, PathBuf};
 use std::process::ExitCode;
 
 const HELP: &str =
-    "compare [--seed N] [--inputs N] [--tasks N] [--calls N] [--program JUDGE [--runs N]]
+    "compare [--seed N] [--inputs N] [--tasks N] [--calls N] [--edges N] [--program JUDGE [--runs N]]
     --seed      where the generator begins (1)
     --inputs    books with certificates to be judged (20000)
     --tasks     files to be read and lists to be written (8000)
     --calls     calls that are asked for (8000)
+    --edges     batches of pairs at the edges of reading (300)
     --program   the program `judge`, to be run as well
     --runs      inputs for the program (1500)";
 
@@ -41,13 +45,21 @@ struct Options {
     inputs: usize,
     tasks: usize,
     calls: usize,
+    edges: usize,
     program: Option<PathBuf>,
     runs: usize,
 }
 
 fn options() -> Option<Options> {
-    let mut options =
-        Options { seed: 1, inputs: 20_000, tasks: 8_000, calls: 8_000, program: None, runs: 1_500 };
+    let mut options = Options {
+        seed: 1,
+        inputs: 20_000,
+        tasks: 8_000,
+        calls: 8_000,
+        edges: 300,
+        program: None,
+        runs: 1_500,
+    };
     let mut words = std::env::args().skip(1);
     while let Some(word) = words.next() {
         let value = words.next()?;
@@ -56,6 +68,7 @@ fn options() -> Option<Options> {
             "--inputs" => options.inputs = value.parse().ok()?,
             "--tasks" => options.tasks = value.parse().ok()?,
             "--calls" => options.calls = value.parse().ok()?,
+            "--edges" => options.edges = value.parse().ok()?,
             "--program" => options.program = Some(PathBuf::from(value)),
             "--runs" => options.runs = value.parse().ok()?,
             _ => return None,
@@ -84,11 +97,13 @@ fn main() -> ExitCode {
 /// How many kinds of runs passed, and the test of what they met.
 fn compared(options: &Options) -> Compared<usize> {
     let mut coverage = Coverage::default();
-    let mut wanted = [wanted_of_judging(), wanted_of_files(), wanted_of_calls()].concat();
-    let mut passed = 3;
+    let mut wanted =
+        [wanted_of_judging(), wanted_of_files(), wanted_of_calls(), wanted_of_edges()].concat();
+    let mut passed = 4;
     let followed = judgings(options, &mut coverage)?;
     readings_and_writings(options, &mut coverage)?;
     calls(options, &mut coverage)?;
+    edges(options, &mut coverage)?;
     if let Some(program) = &options.program {
         runs(program, options, &mut coverage)?;
         runs_in_pieces(program, options, &mut coverage)?;
@@ -113,14 +128,10 @@ fn judgings(options: &Options, coverage: &mut Coverage) -> Compared<Followed> {
     let mut random = Random::new(!options.seed);
     let mut followed = Followed::default();
     let mut swift = Swift::default();
-    let judges: &mut [(&str, &mut Judging)] = &mut [
-        ("proved", &mut |book, certificate, work| Proved.judge(book, certificate, work)),
-        ("swift", &mut |book, certificate, work| swift.judge(book, certificate, work)),
-    ];
     for number in 0..options.inputs {
         let input = inputs.next_input();
         let (book, certificate) = files_of(&input);
-        let one = judge_all(judges, book, certificate, &mut random).and_then(|verdict| {
+        let one = judge_by_three(&mut swift, book, certificate, &mut random).and_then(|verdict| {
             coverage.judged(book, certificate, &verdict);
             if let Verdict::Accepted { .. } = verdict {
                 followed.follow(book, certificate, &mut random)?;
@@ -161,6 +172,21 @@ fn calls(options: &Options, coverage: &mut Coverage) -> Compared<()> {
             }
         });
         one.map_err(|fault| numbered("call", number, options.seed, &fault))?;
+    }
+    Ok(())
+}
+
+/// Pairs at the edges of reading: judged, and both files read.
+fn edges(options: &Options, coverage: &mut Coverage) -> Compared<()> {
+    let mut edges = Edges::new(options.seed);
+    let mut random = Random::new(!options.seed);
+    let mut swift = Swift::default();
+    for number in 0..options.edges {
+        for edged in edges.next_batch() {
+            let one = at_an_edge(&edged, &mut swift, &mut random);
+            let verdict = one.map_err(|fault| numbered("batch", number, options.seed, &fault))?;
+            coverage.edged(&edged, &verdict);
+        }
     }
     Ok(())
 }

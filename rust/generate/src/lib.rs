@@ -1,13 +1,15 @@
 //! A seeded generator of (book, certificate) pairs: accepted ones of many
 //! shapes, well-formed ones that fail at a chosen part, ones with two sides that
-//! part at a chosen node, and damaged ones; and of calls that are or are not in an
-//! accepted family.
+//! part at a chosen node, damaged ones, and ones at the edges of reading; and of calls
+//! that are or are not in an accepted family.
 
 pub mod asked;
 pub mod calls;
 pub mod comparisons;
 pub mod damage;
 pub mod dividing;
+pub mod edged;
+pub mod edges;
 pub mod family;
 pub mod faults;
 pub mod hex;

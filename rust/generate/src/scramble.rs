@@ -193,7 +193,7 @@ fn add_rules(case: &mut Case, random: &mut Random) {
     }
 }
 
-fn random_rule(arities: &[u8], random: &mut Random) -> Option<Rule> {
+pub fn random_rule(arities: &[u8], random: &mut Random) -> Option<Rule> {
     let count = random.below(4);
     let mut terms = Vec::new();
     for _ in 0..=count {

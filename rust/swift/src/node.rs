@@ -35,7 +35,7 @@ pub fn symbol_in(bits: u64) -> u64 {
 /// power's tag.
 #[inline(always)]
 pub fn exponents_in(bits: u64) -> u64 {
-    bits >> (64 - 2 - 8 - 2 * FILE_BITS) & (1 << (2 * FILE_BITS)) - 1
+    bits >> (64 - 2 - 8 - 2 * FILE_BITS) & ((1 << (2 * FILE_BITS)) - 1)
 }
 
 /// A power, from a file's bits that begin with its tag. By the product a moves from behind
