@@ -1,4 +1,4 @@
-// The first side of a comparison: the nodes of an instance, pushed. A term that comes again at once is copied.
+// The first side of a comparison: the nodes of an instance, pushed. The term that was spelled last is copied where it comes again.
 use crate::Grown;
 use crate::Header;
 use crate::Spelt;
@@ -43,7 +43,7 @@ fn spell(book: &[u8], s: &[u8], w: &mut [u64], base: usize, count: usize, at: us
     Pushed::Count(n)
 }
 
-// Whether a term comes that was spelled last, where nothing merges with it.
+// Whether the term that was spelled last comes again, where nothing merges with it.
 fn is_repeated(closed: bool, word: u64, last: u64) -> bool
     ensures { λ r. ⌜ Assures ((closed ≡ true) × (word ≡ last)) r ⌝ }
 {
@@ -83,7 +83,7 @@ fn remembered(
     }
 }
 
-// The term of a word, just as it stands: copied where it was spelled last.
+// The term of a word, just as it stands: copied if it was spelled last.
 fn push_listed(
     book: &[u8],
     certificate: &[u8],

@@ -1,5 +1,5 @@
-// The second side of a comparison: an instance of a packed term, walked against the nodes of the first. A term that comes again at once is not
-// read again: the stored nodes are compared with those of its earlier place.
+// The second side of a comparison: an instance of a packed term, walked against the nodes of the first. Where the term
+// that was spelled last comes again, the stored nodes are compared with those of its earlier place.
 use crate::Header;
 use crate::Passed;
 use crate::Spelt;
@@ -43,7 +43,7 @@ fn hold_term(book: &[u8], s: &[u8], w: &[u64], base: usize, from: Held, at: usiz
     h
 }
 
-// Whether a term comes that was spelled last, where no power waits, and the stored nodes from the next on are those that it became.
+// Whether the term that was spelled last comes again, where no power waits, and the stored nodes from the next on are those that it became.
 fn is_repeated(w: &[u64], base: usize, h: Held, word: u64, last: Spelt) -> bool
     requires { ⌜ Room base (h .parts) (now w) ⌝ }
     requires { ⌜ (h .nodes ≤ NODES) × (last .from + last .count ≤ NODES) ⌝ }
@@ -82,7 +82,7 @@ fn remembered(before: Held, after: Held, word: u64, last: Spelt) -> Spelt
     }
 }
 
-// The term of a word, just as it stands.
+// The term of a word, just as it stands: compared if it was spelled last.
 fn hold_listed(
     book: &[u8],
     certificate: &[u8],
