@@ -70,7 +70,7 @@ fn window(s: &[u8], k: usize) -> u64
     byte_at(s, k) * 65536 + byte_at(s, k + 1) * 256 + byte_at(s, k + 2)
 }
 
-// The four bytes from a place on, as one number. Two such are two loads; eight bytes in one sum would be eight.
+// The four bytes from a place on, as one number. Of two such side by side the compiler makes one load.
 fn half(s: &[u8], k: usize) -> u64
     requires { ⌜ k + 4 ≤ length (now s) ⌝ }
     ensures { λ r. ⌜ r ≡ bitsAt (now (s .entry)) (8 * k) 32 ⌝ }
