@@ -1,4 +1,4 @@
--- The fields of a node that one window holds, and what its head comes to.
+-- The fields of a node that one view holds, and what its head comes to.
 use Prim.Native.Nat.{ℕ, _+_, _-_, _/_, _%_, _^_, _<_, _≤_}
 use mathlib.Core.Path.{_≡_, refl, ap, _∙_, subst}
 use mathlib.Core.Logic.{_≢_}
@@ -27,14 +27,14 @@ use Rattle.scans.specs.Headings.{Heading as heading}
 use Rattle.scans.proofs.Seqs.{seq-no, seq-on, seq-at, seq-last, scan-done}
 use Rattle.scans.proofs.Taking.{field-past, field-refused, field-in, packed-past, packed-in}
 
--- ---- a field in a window
+-- ---- a field in a view
 
 pub at-bit : {n m : ℕ} → n ≡ m → _≡_ {A = Cursor} (record { at = n }) (record { at = m })
 at-bit e = λ i. record { at = e i }
 
 pub view-field : (s : List ℕ) {at x : ℕ} → Views s at x → (o w : ℕ) → w ≤ 16 → o + w ≤ 56 → at + (o + w) ≤ roomOf s
     → packedField s w (at + o) ≡ Got (x / 2 ^ (64 - o - w) % 2 ^ w)
-view-field s {at} window o w h k r = packed-in s w (at + o) h (omega arith) (window .field o w k)
+view-field s {at} view o w h k r = packed-in s w (at + o) h (omega arith) (view .field o w k)
 
 -- ---- a symbol
 
@@ -87,8 +87,8 @@ heading-in h (heading.applied n k) = heading.applied n (λ x y. h x (k x y))
 heading-in h (heading.raised k) = heading.raised (λ x y. h x (k x y))
 
 the-tag : (s : List ℕ) (c : Cursor) {room x : ℕ} → room ≡ roomOf s → Views s (c .at) x → c .at + 2 ≤ room → packedField s 2 (c .at) ≡ Got (x / 2 ^ 62 % 4)
-the-tag s c known window inside =
-    packed-in s 2 (c .at) (omega arith) (omega arith) (window .field 0 2 (omega arith) ∙ ap (λ n. bitsAt s n 2) (omega arith))
+the-tag s c known view inside =
+    packed-in s 2 (c .at) (omega arith) (omega arith) (view .field 0 2 (omega arith) ∙ ap (λ n. bitsAt s n 2) (omega arith))
 
 -- `room` is how many bits there are
 module _ {s : List ℕ} {ar : ℕ → ℕ} {end least above room : ℕ} {c : Cursor} (known : room ≡ roomOf s) where
@@ -98,13 +98,13 @@ module _ {s : List ℕ} {ar : ℕ → ℕ} {end least above room : ℕ} {c : Cur
         heading.refused (seq-no (field-past s kind.tag (node least left) c {val = λ v. v} (ne-eqb left 0 some) (packed-past s 2 (c .at) (omega arith))) _ refl);
   }
 
-  module _ {x : ℕ} (window : Views s (c .at) x) (inside : c .at + 2 ≤ room) where
+  module _ {x : ℕ} (view : Views s (c .at) x) (inside : c .at + 2 ≤ room) where
     outside : between least 3 4 (x / 2 ^ 62 % 4) ≡ some 4 → NodeAt s ar end least above c (Bad 4 c)
     outside t = record {
       told = λ left some term.
           heading.refused
           (seq-no
-          (field-refused s kind.tag (node least left) c {val = λ v. v} (ne-eqb left 0 some) (x / 2 ^ 62 % 4) (the-tag s c known window inside) 4
+          (field-refused s kind.tag (node least left) c {val = λ v. v} (ne-eqb left 0 some) (x / 2 ^ 62 % 4) (the-tag s c known view inside) 4
           (rw (ne-eqb left 0 some) t)) _ refl);
     }
 
@@ -124,7 +124,7 @@ module _ {s : List ℕ} {ar : ℕ → ℕ} {end least above room : ℕ} {c : Cur
           heading-in
           (λ y z.
           seq-at _
-          (field-in s kind.tag (node least left) c {val = λ v. v} (ne-eqb left 0 some) (x / 2 ^ 62 % 4) (the-tag s c known window inside)
+          (field-in s kind.tag (node least left) c {val = λ v. v} (ne-eqb left 0 some) (x / 2 ^ 62 % 4) (the-tag s c known view inside)
           (rw (ne-eqb left 0 some) (between-ok least 3 4 (x / 2 ^ 62 % 4) h k)) refl refl)
           refl (rw (q (left - 1) term) z))
           (g (left - 1) term);
@@ -145,7 +145,7 @@ module _ {s : List ℕ} {ar : ℕ → ℕ} {end least above room : ℕ} {c : Cur
           (λ left term.
           heading.variable
           (seq-on
-          (field-in s kind.variable any _ {val = λ v. v} refl _ (view-field s window 2 6 (omega arith) (omega arith) (omega arith)) refl refl
+          (field-in s kind.variable any _ {val = λ v. v} refl _ (view-field s view 2 6 (omega arith) (omega arith) (omega arith)) refl refl
           (at-bit {n = c .at + 8} (omega arith)))
           _ refl (λ v q. scan-done _ _)))
 
@@ -153,10 +153,10 @@ module _ {s : List ℕ} {ar : ℕ → ℕ} {end least above room : ℕ} {c : Cur
         pub node-symbol : x / 2 ^ 62 % 4 ≡ 1 → SymbolAt ar x (c .at) left r → c .at + left ≡ room → NodeAt s ar end least above c r
         node-symbol k S all =
             behind (λ rest term. an-applied term ar rest) h (omega arith) (λ rest term. node-applied term ar end above rest _ k)
-            (λ rest term. S .told s window (all ∙ known) term rest)
+            (λ rest term. S .told s view (all ∙ known) term rest)
 
         pub node-power : x / 2 ^ 62 % 4 ≡ 2 → PowerAt ar end above x (c .at) left r → c .at + left ≡ room → NodeAt s ar end least above c r
         node-power k S all =
             behind (λ rest term. a-raised term ar end above rest) h (omega arith)
             (λ rest term. node-raised term ar end above rest _ (λ z. omega arith) (λ z. omega arith))
-            (λ rest term. S .told s window (all ∙ known) term rest)
+            (λ rest term. S .told s view (all ∙ known) term rest)

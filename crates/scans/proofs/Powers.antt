@@ -1,4 +1,4 @@
--- The power of a node: its symbol, and its two numbers, in one window.
+-- The power of a node: its symbol, and its two numbers, in one view.
 use Prim.Native.Nat.{ℕ, _+_, _/_, _%_, _^_, _<_, _≤_}
 use mathlib.Core.Path.{_≡_, refl, sym, subst}
 use mathlib.Core.Logic.{_≢_}

@@ -1,4 +1,4 @@
--- What the head of a node comes to, read from one window of the file's bytes: where the node is refused or ends, or what is asked for behind it.
+-- What the head of a node comes to, read from one view of the file's bytes: where the node is refused or ends, or what is asked for behind it.
 use Prim.Native.Nat.{ℕ, _+_, _-_, _≤_}
 use mathlib.Core.Path.{_≡_}
 use mathlib.Core.Logic.{_≢_}
@@ -28,7 +28,7 @@ pub data Heading (s : List ℕ) (p : Grammar Grown) (c : Cursor) (term : ℕ →
   raised : {f : ℕ} {d : Cursor} → ((x : Scan) → Scans s (term f rest) d leftOf x → Scans s p c leftOf x)
       → Heading s p c term rest (Raised f d)
 
--- x is the window at a bit, from which on there are `left` bits: what the symbol behind a tag of 1 comes to
+-- x is the view at a bit, from which on there are `left` bits: what the symbol behind a tag of 1 comes to
 pub record SymbolAt (ar : ℕ → ℕ) (x at left : ℕ) (r : Head) : Type 0 where
   pub told : (s : List ℕ) → Views s at x → at + left ≡ roomOf s → (term : ℕ → ℕ → Grammar Grown) (rest : ℕ)
       → Heading s (an-applied term ar rest) (record { at = at + 2 }) term rest r

@@ -1,4 +1,4 @@
-// The head of a node, read from one window of the file's bytes.
+// The head of a node, read from one view of the file's bytes.
 use bits::Cursor;
 use terms::arity_of;
 ghost use Prim.Native.Nat.{_+_, _^_, _≤_};
@@ -16,7 +16,7 @@ pub enum Head {
     Bad(u16, Cursor),
 }
 
-// The symbol of a node that begins at a bit, from which on there are `left` bits; x is the window there.
+// The symbol of a node that begins at a bit, from which on there are `left` bits; x is the view there.
 fn symbol(book: &[u8], x: u64, at: usize, left: usize) -> Head
     requires { ⌜ (2 ≤ left) × (at + left ≤ 2 ^ 32) ⌝ }
     ensures { λ r. ⌜ SymbolAt (arityAt (now (book .entry)) [] false) x at left r ⌝ }
@@ -73,7 +73,7 @@ fn power(book: &[u8], x: u64, at: usize, left: usize, end: u64, above: usize) ->
     }
 }
 
-// The head of the node at a cursor, its tag from `least` on. All its fields are taken out of one window.
+// The head of the node at a cursor, its tag from `least` on. All its fields are taken out of one view.
 pub fn head_at(book: &[u8], s: &[u8], end: u64, c: Cursor, least: u64, above: usize) -> Head
     ensures { λ r. ⌜ NodeAt (now (s .entry)) (arityAt (now (book .entry)) [] false) end least above c r ⌝ }
 {
