@@ -1,4 +1,6 @@
 // A bit cursor by value over bytes, most significant bit first: takes fields out of bytes, and puts fields into them.
+#![tactic(auto)]
+
 ghost use Rattle.std.specs.Prelude.{◌≡◌, ◌+◌, ◌*◌, ◌%◌, ◌^◌, ◌≤◌, ◌<◌, length, set};
 ghost use Rattle.bits.specs.Bits.{byte_at, bits_at, room_of, fits, read_field};
 ghost use Rattle.bits.specs.Put.{place_after, put_field};
