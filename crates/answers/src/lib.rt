@@ -1,4 +1,6 @@
 // What the operations answer: W, a refusal, a verdict, what reading and writing answer, and whether a call is covered.
+#![tactic(auto)]
+
 ghost use Rattle.std.specs.Prelude.{◌≡◌};
 ghost use Rattle.answers.specs.Numbers.{w_of, paper_refusal};
 ghost use Rattle.answers.specs.Carried.{refusal_at, carried};
@@ -53,6 +55,7 @@ pub enum Coverage {
 }
 
 // The number of what a refusal speaks of.
+#[tactic(auto, unfolding(crate::specs::Numbers::w_of))]
 pub fn w_number(w: W) -> usize
     ensures { result ≡ w_of w }
 {
