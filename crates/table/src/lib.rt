@@ -1,4 +1,6 @@
 // The judge's work table: the normal form of a comparison's first side, built node by node in 3,072 words; the second held against it; the table cleared.
+#![tactic(auto)]
+
 pub mod second;
 
 ghost use Rattle.std.specs.Prelude.{◌≡◌, [], ◌∷◌, ◌++◌, ◌+◌, ◌*◌, ◌<◌, ◌≤◌, ◌^◌, length, replicate};
