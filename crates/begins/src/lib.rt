@@ -8,7 +8,7 @@ use instances::field;
 use table::{LEFTS, RIGHTS, RULES, USED};
 
 // A use that was read: where both sides of its claim lie, its index pair, and the bit behind it.
-#[derive(Drop)]
+#[derive(Clone, Copy)]
 pub struct Instance {
     pub left: usize,
     pub right: usize,

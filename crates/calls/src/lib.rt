@@ -12,14 +12,14 @@ ghost use Rattle.calls.specs.Moving.{Follows, Passes, NotesEnds, Term, SameTerms
 use table::{ENDS, FIRST};
 
 // A place in a call: a node, and how many applications of its power are used up.
-#[derive(Drop)]
+#[derive(Clone, Copy)]
 pub struct Place {
     pub node: usize,
     pub used: u64,
 }
 
 // Where a match goes on in the call; or it does not.
-#[derive(Drop)]
+#[derive(Clone, Copy)]
 pub enum Move {
     On(Place),
     Off,

@@ -19,7 +19,7 @@ use answers::{Answer, Refusal, W};
 use fields::{Walk, Walker};
 
 // A good file: a number of it, its fields and its bits. Or its refusal.
-#[derive(Drop)]
+#[derive(Clone, Copy)]
 pub enum Opening {
     Open {
         value: usize,

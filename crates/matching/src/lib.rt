@@ -15,7 +15,7 @@ use instances::{Header, Side, Stand};
 use table::{BOUND, EMPTY, FIRST, OFF};
 
 // The smallest index that was found, or that there is none.
-#[derive(Drop)]
+#[derive(Clone, Copy)]
 pub enum Index {
     At(usize),
     Nowhere,
