@@ -1,4 +1,6 @@
 // The walk over both files for judging: it tests each field, and hands nothing out.
+#![tactic(auto)]
+
 mod claims;
 pub mod closings;
 mod heads;
