@@ -1,4 +1,6 @@
 // The two packed files: reading and writing; and a packed call.
+#![tactic(auto)]
+
 pub mod seeing;
 
 ghost use Rattle.std.specs.Prelude.{◌≡◌, ◌≤◌, ◌*◌, ◌^◌, false, length};
