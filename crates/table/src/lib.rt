@@ -47,7 +47,7 @@ pub enum Item {
 }
 
 // How many nodes the side holds after a push, or that it would have to hold more than 1,024.
-#[derive(Drop)]
+#[derive(Clone, Copy)]
 pub enum Pushed {
     Count(usize),
     NoRoom,
@@ -55,7 +55,7 @@ pub enum Pushed {
 
 // How far a second side has come: how many nodes are settled; the number of the first of them that differs from the stored node of the same
 // number, or how many are stored; and the words of the power that waits, the first of them 0 where none does.
-#[derive(Drop)]
+#[derive(Clone, Copy)]
 pub struct Held {
     pub nodes: usize,
     pub parts: usize,
@@ -65,7 +65,7 @@ pub struct Held {
 }
 
 // What a second side amounts to: the nodes that are stored, others, or more than 1,024.
-#[derive(Drop)]
+#[derive(Clone, Copy)]
 pub enum Outcome {
     Same,
     Other,
