@@ -1,4 +1,5 @@
 -- `instances::nodes::header_of` meets its contract: each field is taken out of the view, if all of the node's fields are there.
+use Rattle.std.proofs.Common.{rules}
 use native.Mathlib.Omega.{arith}
 use Rattle.instances.proofs.Headers.{off, variable_short, variable_whole, symbol_short, symbol_whole, power_short, power_whole, no_kind}
 use Rattle.instances.proofs.nodes.header_of.Goals as goal
@@ -25,4 +26,4 @@ pub returns-else-rest-lt34 : goal.returns-else-rest-lt34
 returns-else-rest-lt34 c = record { is = λ s v e. power_whole _ s _ _ _ v e c.in-2.is (omega (arith, c.if-rest-lt34.false, c.if-at-room.false)) }
 
 pub returns-in_default : goal.returns-in_default
-returns-in_default c = record { is = λ s v e. no_kind _ s _ _ _ v e c.in_default.in_default-own.rest.0.0.1 c.in_default.in_default-own.rest.0.1 c.in_default.in_default-own.rest.1 }
+returns-in_default c = record { is = λ s v e. no_kind _ s _ _ _ v e (search rules) (search rules) (search rules) }
