@@ -6,7 +6,7 @@ ghost use Rattle.answers.specs.Numbers.{w_of, paper_refusal};
 ghost use Rattle.answers.specs.Carried.{refusal_at, carried};
 
 // What a refusal speaks of.
-#[derive(Drop)]
+#[derive(Clone, Copy)]
 pub enum W {
     Book,
     Certificate,
@@ -17,7 +17,7 @@ pub enum W {
 }
 
 // A refusal: its number, what it speaks of, and the place there.
-#[derive(Drop)]
+#[derive(Clone, Copy)]
 pub struct Refusal {
     pub number: u16,
     pub w: W,
@@ -26,7 +26,7 @@ pub struct Refusal {
 }
 
 // A certificate that was accepted: the line that its closing names, the step k and the start α.
-#[derive(Drop)]
+#[derive(Clone, Copy)]
 pub struct Acceptance {
     pub line: usize,
     pub k: usize,
@@ -34,21 +34,21 @@ pub struct Acceptance {
 }
 
 // What the judge answers.
-#[derive(Drop)]
+#[derive(Clone, Copy)]
 pub enum Verdict {
     Accepted(Acceptance),
     Refused(Refusal),
 }
 
 // What reading and writing answer: how many places were filled, or a refusal.
-#[derive(Drop)]
+#[derive(Clone, Copy)]
 pub enum Answer {
     Filled(usize),
     Refused(Refusal),
 }
 
 // What `covers` answers: the smallest index at which the call is covered, or a refusal.
-#[derive(Drop)]
+#[derive(Clone, Copy)]
 pub enum Coverage {
     Covered(usize),
     Refused(Refusal),

@@ -40,7 +40,7 @@ pub const WORDS: usize = 8192;
 pub const NODES: usize = 1024;
 
 // A node that comes: a variable or a symbol with arguments, by the word that tells it; or a power of a symbol with its numbers a and b.
-#[derive(Drop)]
+#[derive(Clone, Copy)]
 pub enum Item {
     Plain(u64),
     Power { symbol: u16, a: u64, b: u64 },
