@@ -1,4 +1,6 @@
 // Which check is made at each part of an unfold, a descent and the closing, and the check: what is built for its sides, and what is asked of a right.
+#![tactic(auto)]
+
 mod rights;
 mod sides;
 

@@ -1,5 +1,7 @@
 // Terms that lie packed in a file: the walk over one, and the normal form of an instance built in one pass, or held against one that was; fields
 // and fillings there.
+#![tactic(auto)]
+
 pub mod fillings;
 mod first;
 pub mod nodes;
