@@ -1,4 +1,6 @@
 // A call that stands in the work table: where each of its terms ends, and the ways to go on from a place in it.
+#![tactic(auto)]
+
 ghost use Rattle.std.specs.Prelude.{◌≡◌, [], ◌∷◌, ◌+◌, ◌*◌, ◌-◌, ◌≤◌, ◌<◌, length};
 ghost use Rattle.instances.specs.Lying.{arities};
 ghost use Rattle.table.specs.Places.{WORDS, NODES, FIRST};

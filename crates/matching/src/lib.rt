@@ -1,4 +1,6 @@
 // A packed pattern matched with a call that stands in the work table: node by node, at one index, at one index after the other.
+#![tactic(auto)]
+
 ghost use Rattle.std.specs.Prelude.{◌≡◌, [], ◌∷◌, ◌+◌, ◌≤◌, ◌<◌, length, set};
 ghost use Rattle.patterns.specs.Term.{nvar};
 ghost use Rattle.patterns.specs.First.{value};
