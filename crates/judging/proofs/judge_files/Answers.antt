@@ -7,24 +7,24 @@ use lib.ListN.{length-take}
 use native.Mathlib.Omega.{arith}
 use mathlib.Core.Path.{refl, sym, ◌∙◌}
 use Rattle.answers.proofs.Refusing.{refused_verdict}
-use Rattle.std.proofs.Common.{rules, true, false}
+use Rattle.std.proofs.Common.{rules}
 use Rattle.judging.proofs.judge_files.Goals as goal
 
 pub returns-then-book-gt16384 : goal.returns-then-book-gt16384
 unfolding w_of
-returns-then-book-gt16384 c =  record {
-      answered = refused_verdict _ c.whole.ensures ∙ sym (book_long _ _ c.if-book-gt16384.true);
-      lent = refl;
-      placed = refused_placed;
-    }
+returns-then-book-gt16384 c = record {
+  answered = refused_verdict _ c.whole.ensures ∙ sym (book_long _ _ c.if-book-gt16384.true);
+  lent = refl;
+  placed = refused_placed;
+}
 
 pub returns-then-certificate-gt32768 : goal.returns-then-certificate-gt32768
 unfolding w_of
-returns-then-certificate-gt32768 c =  record {
-      answered = refused_verdict _ c.whole-then-certificate-gt32768.ensures ∙ sym (certificate_long _ _ c.if-book-gt16384.false c.if-certificate-gt32768.true);
-      lent = refl;
-      placed = refused_placed;
-    }
+returns-then-certificate-gt32768 c = record {
+  answered = refused_verdict _ c.whole-then-certificate-gt32768.ensures ∙ sym (certificate_long _ _ c.if-book-gt16384.false c.if-certificate-gt32768.true);
+  lent = refl;
+  placed = refused_placed;
+}
 
 pub slice_bounds-counts-end : goal.slice_bounds-counts-end
 slice_bounds-counts-end c = let h = few_rules c.see_book.ensures c.in-Good.is in search rules
@@ -37,11 +37,11 @@ judge_certificate-requires c = (is_beside c.see_book.ensures c.in-Good.is refl, 
 
 pub returns-in-Shut : goal.returns-in-Shut
 unfolding paper_verdict
-returns-in-Shut c =  record {
-      answered = sym (both_short _ _ c.if-book-gt16384.false c.if-certificate-gt32768.false ∙ book_refused _ _ _ (finding_shut _ _ c.see_book.ensures.told c.in-Shut.is));
-      lent = refl;
-      placed = refused_placed;
-    }
+returns-in-Shut c = record {
+  answered = sym (both_short _ _ c.if-book-gt16384.false c.if-certificate-gt32768.false ∙ book_refused _ _ _ (finding_shut _ _ c.see_book.ensures.told c.in-Shut.is));
+  lent = refl;
+  placed = refused_placed;
+}
 
 pub returns-in-Good : goal.returns-in-Good
 returns-in-Good c = record {

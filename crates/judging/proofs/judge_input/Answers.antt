@@ -5,7 +5,6 @@ use Rattle.table.proofs.Answer.{says_true, says_false}
 use Rattle.verdicts.proofs.Framing.{input_unjudged, input_judged}
 use lib.ListN.{replicate}
 use mathlib.Core.Path.{sym, ap, ◌∙◌}
-use Rattle.std.proofs.Common.{true, false}
 use Rattle.judging.proofs.judge_input.Goals as goal
 
 pub returns-then-is_short : goal.returns-then-is_short
