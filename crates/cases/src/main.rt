@@ -69,28 +69,17 @@ fn file_length(length: u16, listed: bool) -> usize
     length as usize
 }
 
-// Reads until `buf` is full, the input ends or a read fails. What it had no byte for stays as it was.
-fn read_full<R: Read>(input: &mut R, buf: &mut [u8]) {
-    let mut done = 0;
-    while done < buf.len() {
-        match input.read(&mut buf[done..]) {
-            Ok(0) | Err(_) => return,
-            Ok(n) => done += n,
-        }
-    }
-}
-
-// Reads the first n bytes of a part.
+// Reads the first n bytes of a part. What the input has no byte for stays as it was.
 fn fill<R: Read>(input: &mut R, part: &mut [u8], n: usize)
     requires { n ≤ length part.old }
     ensures { IsPrefixLen n part.new }
 {
-    read_full(input, &mut part[..n]);
+    let _ = input.read_exact(&mut part[..n]);
 }
 
 fn read_number<R: Read>(input: &mut R) -> u16 {
     let mut two = [0u8; 2];
-    read_full(input, &mut two);
+    let _ = input.read_exact(&mut two);
     number(two[0], two[1])
 }
 
@@ -104,7 +93,7 @@ fn read_third<R: Read>(input: &mut R, operation: u8) -> u16 {
 
 fn read_head<R: Read>(input: &mut R) -> Head {
     let mut head = [0u8; 8];
-    read_full(input, &mut head);
+    let _ = input.read_exact(&mut head);
     let operation = head[0];
     Head {
         operation,
@@ -287,9 +276,8 @@ fn run_next<R: Read>(rt: &impl Print, input: &mut R) {
 
 fn main(rt: HostRuntime) {
     let mut input = rt.stdin();
-    let mut left = read_number(&mut input);
-    while left > 0 {
+    let count = read_number(&mut input);
+    for _ in 0..count {
         run_next(&rt, &mut input);
-        left -= 1;
     }
 }
