@@ -1,5 +1,5 @@
 -- `read_full` ends with the room, and what it put in `buf` is what it took.
-use Rattle.std.proofs.Common.{◌≡◌, ◌-◌, ◌≤◌, length, take}
+use Rattle.std.proofs.Common.{◌-◌, ◌≤◌, length, take}
 use Rattle.std.specs.Io.KnownBytes.{Consumes}
 use Rattle.judge.proofs.read_full.Given as goal
 
