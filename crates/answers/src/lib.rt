@@ -1,10 +1,12 @@
 // What the operations answer: W, a refusal, a verdict, what reading and writing answer, and whether a call is covered.
+#![tactic(auto)]
+
 ghost use Rattle.std.specs.Prelude.{◌≡◌};
 ghost use Rattle.answers.specs.Numbers.{w_of, paper_refusal};
 ghost use Rattle.answers.specs.Carried.{refusal_at, carried};
 
 // What a refusal speaks of.
-#[derive(Drop)]
+#[derive(Clone, Copy)]
 pub enum W {
     Book,
     Certificate,
@@ -15,7 +17,7 @@ pub enum W {
 }
 
 // A refusal: its number, what it speaks of, and the place there.
-#[derive(Drop)]
+#[derive(Clone, Copy)]
 pub struct Refusal {
     pub number: u16,
     pub w: W,
@@ -24,7 +26,7 @@ pub struct Refusal {
 }
 
 // A certificate that was accepted: the line that its closing names, the step k and the start α.
-#[derive(Drop)]
+#[derive(Clone, Copy)]
 pub struct Acceptance {
     pub line: usize,
     pub k: usize,
@@ -32,27 +34,28 @@ pub struct Acceptance {
 }
 
 // What the judge answers.
-#[derive(Drop)]
+#[derive(Clone, Copy)]
 pub enum Verdict {
     Accepted(Acceptance),
     Refused(Refusal),
 }
 
 // What reading and writing answer: how many places were filled, or a refusal.
-#[derive(Drop)]
+#[derive(Clone, Copy)]
 pub enum Answer {
     Filled(usize),
     Refused(Refusal),
 }
 
 // What `covers` answers: the smallest index at which the call is covered, or a refusal.
-#[derive(Drop)]
+#[derive(Clone, Copy)]
 pub enum Coverage {
     Covered(usize),
     Refused(Refusal),
 }
 
 // The number of what a refusal speaks of.
+#[tactic(auto, unfolding(crate::specs::Numbers::w_of))]
 pub fn w_number(w: W) -> usize
     ensures { result ≡ w_of w }
 {

@@ -1,4 +1,6 @@
 // Where rules, lines and uses begin: the rules of a book noted in the work table, and a use read with what is noted there.
+#![tactic(auto)]
+
 ghost use Rattle.std.specs.Prelude.{◌≡◌, ◌+◌, ◌≤◌, ◌<◌, length, get_or};
 ghost use Rattle.table.specs.Places.{WORDS, ROWS, EMPTY};
 ghost use Rattle.begins.specs.Placed.{Passes, PassesRule, PassesRight, NotesRules, Indexes};
@@ -8,7 +10,7 @@ use instances::field;
 use table::{LEFTS, RIGHTS, RULES, USED};
 
 // A use that was read: where both sides of its claim lie, its index pair, and the bit behind it.
-#[derive(Drop)]
+#[derive(Clone, Copy)]
 pub struct Instance {
     pub left: usize,
     pub right: usize,

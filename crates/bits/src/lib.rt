@@ -1,4 +1,6 @@
 // A bit cursor by value over bytes, most significant bit first: takes fields out of bytes, and puts fields into them.
+#![tactic(auto)]
+
 ghost use Rattle.std.specs.Prelude.{◌≡◌, ◌+◌, ◌*◌, ◌%◌, ◌^◌, ◌≤◌, ◌<◌, length, set};
 ghost use Rattle.bits.specs.Bits.{byte_at, bits_at, room_of, fits, read_field};
 ghost use Rattle.bits.specs.Put.{place_after, put_field};
@@ -6,14 +8,14 @@ ghost use Rattle.bits.specs.Window.{window_at, with_window, woven};
 ghost use Rattle.bits.specs.View.{Views};
 
 // Where the next field begins, counted in bits from the first bit.
-#[derive(Drop)]
+#[derive(Clone, Copy)]
 pub struct Cursor {
     pub at: usize,
 }
 
 // What stands at a cursor: a field's value and the cursor past it; or `Past`, where the field begins or runs past the end.
 // A field of more than 16 bits is never there.
-#[derive(Drop)]
+#[derive(Clone, Copy)]
 pub enum Taken {
     Got(u16, Cursor),
     Past,

@@ -1,4 +1,6 @@
 // The walk over a rule book, packed or listed: it tests each field, and passes it into both outputs.
+#![tactic(auto)]
+
 ghost use Rattle.std.specs.Prelude.{◌≡◌, ◌+◌, ◌≤◌, set};
 ghost use Rattle.fields.specs.Source.{source, start};
 ghost use Rattle.fields.specs.Run.{state, Ran};

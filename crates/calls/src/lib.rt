@@ -1,4 +1,6 @@
 // A call that stands in the work table: where each of its terms ends, and the ways to go on from a place in it.
+#![tactic(auto)]
+
 ghost use Rattle.std.specs.Prelude.{◌≡◌, [], ◌∷◌, ◌+◌, ◌*◌, ◌-◌, ◌≤◌, ◌<◌, length};
 ghost use Rattle.instances.specs.Lying.{arities};
 ghost use Rattle.table.specs.Places.{WORDS, NODES, FIRST};
@@ -12,14 +14,14 @@ ghost use Rattle.calls.specs.Moving.{Follows, Passes, NotesEnds, Term, SameTerms
 use table::{ENDS, FIRST};
 
 // A place in a call: a node, and how many applications of its power are used up.
-#[derive(Drop)]
+#[derive(Clone, Copy)]
 pub struct Place {
     pub node: usize,
     pub used: u64,
 }
 
 // Where a match goes on in the call; or it does not.
-#[derive(Drop)]
+#[derive(Clone, Copy)]
 pub enum Move {
     On(Place),
     Off,

@@ -1,4 +1,6 @@
 // The walk over a certificate, packed or listed: it tests each field, and passes it into both outputs.
+#![tactic(auto)]
+
 ghost use Rattle.std.specs.Prelude.{◌≡◌, ◌+◌, ◌≤◌, ◌<◌, false, length, get_or};
 ghost use Rattle.fields.specs.Source.{source, start};
 ghost use Rattle.fields.specs.Run.{Ran};

@@ -1,4 +1,6 @@
 // Which check is made at each part of an unfold, a descent and the closing, and the check: what is built for its sides, and what is asked of a right.
+#![tactic(auto)]
+
 mod rights;
 mod sides;
 
@@ -10,7 +12,7 @@ ghost use Rattle.comparing.specs.Asked.{LedEquals, asked_at, Checks};
 use instances::field;
 
 // What fills a term of the certificate: nothing, or a use's filling.
-#[derive(Drop)]
+#[derive(Clone, Copy)]
 pub enum Filled {
     Bare,
     Used,
@@ -18,7 +20,7 @@ pub enum Filled {
 
 // What is built for a comparison: the empty mark; a head or call of a rule at a bit of the book; or a term at a bit of the
 // certificate, reindexed and filled.
-#[derive(Drop)]
+#[derive(Clone, Copy)]
 pub enum Subject {
     Empty,
     Call(usize),
@@ -31,7 +33,7 @@ pub enum Subject {
 }
 
 // What a comparison comes to: equal, with the bit behind the first side's term; not equal; or a side has more than 1,024 nodes.
-#[derive(Drop)]
+#[derive(Clone, Copy)]
 pub enum Compared {
     Equal(usize),
     Unequal,
@@ -39,14 +41,14 @@ pub enum Compared {
 }
 
 // What some checks come to: the number and the part of the first that is not met; or all are met, and a bit where the next begin.
-#[derive(Drop)]
+#[derive(Clone, Copy)]
 pub enum Found {
     Fault { number: u16, part: usize },
     Good(usize),
 }
 
 // The whole whose part a check is.
-#[derive(Drop)]
+#[derive(Clone, Copy)]
 pub enum Whole {
     Unfold,
     Descent,
@@ -54,7 +56,7 @@ pub enum Whole {
 }
 
 // What stands behind a call that has a use: calls that the line judges too, calls that stay pending, or none.
-#[derive(Drop)]
+#[derive(Clone, Copy)]
 pub enum Behind {
     Judged,
     Pending,
@@ -63,7 +65,7 @@ pub enum Behind {
 
 // What is asked at a part, with the numbers of its refusals: that two sides are equal; that the right of a use is what the calls behind
 // it ask for, and then that two sides are equal; that a right is the same at every index; that a right is there.
-#[derive(Drop)]
+#[derive(Clone, Copy)]
 pub enum Asked {
     Same(u16),
     Led { before: u16, number: u16 },

@@ -1,4 +1,6 @@
 // A walker over fields, packed in bytes or listed as numbers, that puts each field it passes into two outputs.
+#![tactic(auto)]
+
 ghost use Rattle.std.specs.Prelude.{◌≡◌, ◌<◌, ◌≤◌, ◌^◌, set};
 ghost use Rattle.bits.specs.Put.{put_field};
 ghost use Rattle.fields.specs.Source.{listed_field, field_at, source, moved, start};
@@ -6,7 +8,7 @@ ghost use Rattle.fields.specs.Run.{Took};
 
 // How far a walk has come: the bits and the fields passed. The next field stands at bit `bit` of the bytes or, if the
 // source is a list, at place `n` of the list.
-#[derive(Drop)]
+#[derive(Clone, Copy)]
 pub struct Walker {
     pub bit: usize,
     pub n: usize,
@@ -14,14 +16,14 @@ pub struct Walker {
 }
 
 // What stands at a walker: a field's value, or the number of its refusal.
-#[derive(Drop)]
+#[derive(Clone, Copy)]
 pub enum Field {
     Got(u16),
     Bad(u16),
 }
 
 // What a walk comes to: a value and the walker past it, or the number of a refusal and the walker where it is given.
-#[derive(Drop)]
+#[derive(Clone, Copy)]
 pub enum Walk {
     On(usize, Walker),
     No(u16, Walker),

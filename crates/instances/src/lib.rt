@@ -1,5 +1,7 @@
 // Terms that lie packed in a file: the walk over one, and the normal form of an instance built in one pass, or held against one that was; fields
 // and fillings there.
+#![tactic(auto)]
+
 pub mod fillings;
 mod first;
 pub mod nodes;
@@ -20,7 +22,7 @@ use nodes::header_of;
 use table::{Held, Item};
 
 // A field, and the bit behind it.
-#[derive(Drop)]
+#[derive(Clone, Copy)]
 pub struct Read {
     pub value: u16,
     pub at: usize,
@@ -28,7 +30,7 @@ pub struct Read {
 
 // The header of a node, with the cursor past it: a variable, a symbol with its arity, or a power of a symbol with a and b. It is
 // missing where a field runs past the end or the tag is 3.
-#[derive(Drop)]
+#[derive(Clone, Copy)]
 pub enum Header {
     Variable {
         variable: u16,
@@ -49,21 +51,21 @@ pub enum Header {
 }
 
 // Where a walk stands: the bit, and how many terms are still to come.
-#[derive(Drop)]
+#[derive(Clone, Copy)]
 pub struct Stand {
     pub at: usize,
     pub pending: usize,
 }
 
 // A side of a comparison: how many nodes it has, and where the term behind it ends; or it has more than 1,024.
-#[derive(Drop)]
+#[derive(Clone, Copy)]
 pub enum Side {
     Done { nodes: usize, end: usize },
     Full,
 }
 
 // The term that was spelled last: its word, 0 where none is remembered; the number of the first node that it became, and how many these are.
-#[derive(Drop)]
+#[derive(Clone, Copy)]
 pub struct Spelt {
     pub word: u64,
     pub from: usize,
@@ -71,14 +73,14 @@ pub struct Spelt {
 }
 
 // How many nodes a side holds after a node of an instance, with the term that was spelled last; or it would have to hold more than 1,024.
-#[derive(Drop)]
+#[derive(Clone, Copy)]
 pub enum Grown {
     To { nodes: usize, last: Spelt },
     Beyond,
 }
 
 // How far a second side has come, with the term that was spelled last.
-#[derive(Drop)]
+#[derive(Clone, Copy)]
 pub struct Passed {
     pub held: Held,
     pub last: Spelt,

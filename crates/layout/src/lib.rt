@@ -1,4 +1,6 @@
 // The two packed files: reading and writing; and a packed call.
+#![tactic(auto)]
+
 pub mod seeing;
 
 ghost use Rattle.std.specs.Prelude.{◌≡◌, ◌≤◌, ◌*◌, ◌^◌, false, length};
@@ -19,7 +21,7 @@ use answers::{Answer, Refusal, W};
 use fields::{Walk, Walker};
 
 // A good file: a number of it, its fields and its bits. Or its refusal.
-#[derive(Drop)]
+#[derive(Clone, Copy)]
 pub enum Opening {
     Open {
         value: usize,

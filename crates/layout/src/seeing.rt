@@ -9,7 +9,7 @@ use answers::{Refusal, W};
 use scans::Scan;
 
 // A good file: a number of it. Or its refusal.
-#[derive(Drop)]
+#[derive(Clone, Copy)]
 pub enum Finding {
     Good(usize),
     Shut(Refusal),

@@ -1,4 +1,6 @@
 // The lines of a certificate, each over those before it, and the closing: the verdict on two good files.
+#![tactic(auto)]
+
 ghost use Rattle.std.specs.Prelude.{◌≡◌, ◌+◌, ◌≤◌, ◌<◌, length};
 ghost use Rattle.answers.specs.Numbers.{paper_verdict};
 ghost use Rattle.patterns.specs.Judge.{accept};

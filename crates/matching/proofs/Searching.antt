@@ -4,10 +4,10 @@ use mathlib.Core.Path.{◌≡◌, refl, sym, ◌∙◌, ap, subst}
 use mathlib.Core.Logic.{if_pos, if_neg}
 use mathlib.Core.List.{List}
 use mathlib.Core.Bool.{Bool, true, false, cond}
-use mathlib.Core.Option.{none, some}
+use mathlib.Core.Option.{some}
 use native.Mathlib.Omega.{arith}
 use lib.ListN.{length}
-use Rattle.patterns.specs.Term.{var, fill, nodes, size}
+use Rattle.patterns.specs.Term.{var, fill, nodes}
 use Rattle.patterns.specs.Edition.{reindex, form}
 use Rattle.patterns.specs.First.{Pattern, one}
 use Rattle.patterns.specs.Demand.{level?}
@@ -161,7 +161,7 @@ module _ {book call w u v : List ℕ} {side-built : Side} (f : Forgets EMPTY w u
   unfolding Stored Built mark_nodes
   search_full e = record {
     told = λ t c T C K.
-        let s : NODES < length (nodes (form one (fill var (reindex one (1, 0) c)))) = subst (Stored FIRST _ (behind 0 c) v) e (stored c C) in
+        let s : NODES < length (nodes (form one (fill var (reindex one (1, 0) c)))) = subst (Stored FIRST (some (fill var (reindex one (1, 0) c))) (behind 0 c) v) e (stored c C) in
         absurd (omega (arith, s, ap (λ d. length (nodes d)) (own_form c K), length_nodes c, C.small));
     size = b.kept.size ∙ f.kept.size;
   }
@@ -171,7 +171,7 @@ module _ {book call w u v : List ℕ} {side-built : Side} (f : Forgets EMPTY w u
   unfolding Stored Built mark_nodes
   search_done {k = k} {end = end} e S = record {
     told = λ t c T C K.
-        let s : Stored FIRST (some (fill var (reindex one (1, 0) c))) (behind 0 c) v (Done k end) = subst (Stored FIRST _ (behind 0 c) v) e (stored c C) in
+        let s : Stored FIRST (some (fill var (reindex one (1, 0) c))) (behind 0 c) v (Done k end) = subst (Stored FIRST (some (fill var (reindex one (1, 0) c))) (behind 0 c) v) e (stored c C) in
         S.told t c T (s.0.1 ∙ ap nodes (own_form c K)) K;
     size = S.size ∙ b.kept.size ∙ f.kept.size;
   }

@@ -1,4 +1,6 @@
 // A packed pattern matched with a call that stands in the work table: node by node, at one index, at one index after the other.
+#![tactic(auto)]
+
 ghost use Rattle.std.specs.Prelude.{◌≡◌, [], ◌∷◌, ◌+◌, ◌≤◌, ◌<◌, length, set};
 ghost use Rattle.patterns.specs.Term.{nvar};
 ghost use Rattle.patterns.specs.First.{value};
@@ -15,7 +17,7 @@ use instances::{Header, Side, Stand};
 use table::{BOUND, EMPTY, FIRST, OFF};
 
 // The smallest index that was found, or that there is none.
-#[derive(Drop)]
+#[derive(Clone, Copy)]
 pub enum Index {
     At(usize),
     Nowhere,

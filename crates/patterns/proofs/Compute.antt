@@ -1,6 +1,7 @@
 -- What a computed example unfolds, under one name: `unfolding compute`.
 use mathlib.Core.Logic.Dec
 use native.Mathlib.Decide.{ℕ_discrete, dec_le}
+use mathlib.Core.Logic.Dec
 use Rattle.patterns.specs.Term.{fill, exps, times, plain, All, size, nodes}
 use Rattle.patterns.specs.Normal.{over, power, norm}
 use Rattle.patterns.specs.Every.{Every}

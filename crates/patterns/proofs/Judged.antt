@@ -14,7 +14,7 @@ use Rattle.patterns.specs.Certificate.{Claim, Line, Closing, Certificate, claim_
 use Rattle.patterns.specs.Checks.{Lines, Good}
 use Rattle.patterns.specs.Reason.{Reason, line_place, closing_place}
 use Rattle.patterns.specs.Demand.{met?}
-use Rattle.patterns.specs.Judge.{check, line_checks, closing_checks, Placed, place, checks_from, checks, first_unmet, Ruling, accept, refuse, ruling, judge, Small, FirstBroken}
+use Rattle.patterns.specs.Judge.{line_checks, closing_checks, Placed, place, checks_from, checks, first_unmet, Ruling, accept, refuse, ruling, judge, Small, FirstBroken}
 use Rattle.patterns.proofs.AllMet.{Meets, FitsMet, met_fits, line_met, met_line, Closed, closing_met, met_closing}
 
 module _ {E I R S : Type 0} (𝓔 : Edition E I R S) where

@@ -7,7 +7,6 @@ use native.Mathlib.Omega.{arith}
 use Rattle.patterns.specs.Term.{Plain}
 use Rattle.patterns.specs.Derive.{Book, Query, Step, Steps}
 use Rattle.patterns.proofs.Derive.{steps_beside, steps_then, steps_cut}
-use Rattle.patterns.specs.Edition.{at}
 use Rattle.patterns.specs.Claims.{End, Reaches}
 
 -- what a call that is reached does beside others

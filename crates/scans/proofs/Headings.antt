@@ -13,7 +13,7 @@ use Rattle.fields.specs.declared.Field.TheVariants.{Got}
 use Rattle.fields.specs.Source.{packed_field}
 use Rattle.fields.specs.Kinds.{any, applied, node, test, between}
 use Rattle.fields.specs.Kinds.{FieldKind as kind}
-use Rattle.fields.specs.Grammar.{Grammar, field}
+use Rattle.fields.specs.Grammar.{Grammar}
 use Rattle.fields.proofs.Ranges.{between_low, between_high, between_ok}
 use Rattle.grammar.specs.Terms.{Grown, args_of, a_symbol, a_variable, an_applied, a_raised, a_node}
 use Rattle.terms.specs.Values.{left_of, left_of_all}

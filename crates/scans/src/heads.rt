@@ -8,7 +8,7 @@ use terms::arity_of;
 
 // What stands at the head of a node, with the cursor past it: a variable; a symbol, by its arity; a power, by its symbol. Or the number of a
 // refusal, with the cursor where it is given.
-#[derive(Drop)]
+#[derive(Clone, Copy)]
 pub enum Head {
     Leaf(Cursor),
     Applied { arity: usize, past: Cursor },

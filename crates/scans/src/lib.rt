@@ -1,4 +1,6 @@
 // The walk over both files for judging: it tests each field, and hands nothing out.
+#![tactic(auto)]
+
 mod claims;
 pub mod closings;
 mod heads;
@@ -11,7 +13,7 @@ ghost use Rattle.scans.specs.Glance.{Takes};
 use bits::{Cursor, Taken};
 
 // What a walk comes to: a value and the cursor past it, or the number of a refusal and the cursor where it is given.
-#[derive(Drop)]
+#[derive(Clone, Copy)]
 pub enum Scan {
     On(usize, Cursor),
     No(u16, Cursor),

@@ -1,4 +1,6 @@
 // The judge's work table: the normal form of a comparison's first side, built node by node in 3,072 words; the second held against it; the table cleared.
+#![tactic(auto)]
+
 pub mod second;
 
 ghost use Rattle.std.specs.Prelude.{◌≡◌, [], ◌∷◌, ◌++◌, ◌+◌, ◌*◌, ◌<◌, ◌≤◌, ◌^◌, length, replicate};
@@ -38,14 +40,14 @@ pub const WORDS: usize = 8192;
 pub const NODES: usize = 1024;
 
 // A node that comes: a variable or a symbol with arguments, by the word that tells it; or a power of a symbol with its numbers a and b.
-#[derive(Drop)]
+#[derive(Clone, Copy)]
 pub enum Item {
     Plain(u64),
     Power { symbol: u16, a: u64, b: u64 },
 }
 
 // How many nodes the side holds after a push, or that it would have to hold more than 1,024.
-#[derive(Drop)]
+#[derive(Clone, Copy)]
 pub enum Pushed {
     Count(usize),
     NoRoom,
@@ -53,7 +55,7 @@ pub enum Pushed {
 
 // How far a second side has come: how many nodes are settled; the number of the first of them that differs from the stored node of the same
 // number, or how many are stored; and the words of the power that waits, the first of them 0 where none does.
-#[derive(Drop)]
+#[derive(Clone, Copy)]
 pub struct Held {
     pub nodes: usize,
     pub parts: usize,
@@ -63,7 +65,7 @@ pub struct Held {
 }
 
 // What a second side amounts to: the nodes that are stored, others, or more than 1,024.
-#[derive(Drop)]
+#[derive(Clone, Copy)]
 pub enum Outcome {
     Same,
     Other,

@@ -1,4 +1,6 @@
 // The walk over terms and fillings, packed or listed: it tests each field, and passes it into both outputs.
+#![tactic(auto)]
+
 mod heads;
 
 ghost use Rattle.std.specs.Prelude.{◌≡◌, ℕ, ◌≤◌, false, []};
@@ -11,7 +13,7 @@ ghost use Rattle.terms.specs.Values.{left_of, left_of_all, first_of, nothing};
 use fields::{Field, Walk, Walker};
 
 // Where the book's arities stand, in a list or in bytes, and the number that a stays below.
-#[derive(Drop)]
+#[derive(Clone, Copy)]
 pub struct Mode {
     pub listed: bool,
     pub end: u16,

@@ -12,7 +12,7 @@ use Rattle.patterns.specs.Term.{fill}
 use Rattle.patterns.specs.First.{Exp, Pattern, Pair, one}
 use Rattle.patterns.specs.Every.{Every}
 use Rattle.patterns.specs.Derive.{Book}
-use Rattle.patterns.specs.Certificate.{Fills, by, Mark, Claim, Use, call}
+use Rattle.patterns.specs.Certificate.{Fills, by, Mark, Claim, Use}
 use Rattle.patterns.specs.Checks.{instance, instance_mark}
 use Rattle.patterns.specs.Judge.{Check, compare, pending, parts}
 use Rattle.grammar.specs.Listing.{if_any, term_fields, use_fields}

@@ -1,4 +1,6 @@
 // The checks of an unfold.
+#![tactic(auto)]
+
 ghost use Rattle.std.specs.Prelude.{◌+◌, ◌≤◌, ◌<◌, length};
 ghost use Rattle.table.specs.Places.{WORDS, ROWS};
 ghost use Rattle.unfolds.specs.Unfoldings.{BehindStop, EndsAt, StopsBy, PartBy, EndsBy, EndsUsed, Ends, PartsAt, StopsAt, UnfoldsBy, UnfoldAt};

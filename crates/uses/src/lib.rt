@@ -1,4 +1,6 @@
 // The walk over the uses of a certificate's lines, and over where an unfold stops.
+#![tactic(auto)]
+
 ghost use Rattle.std.specs.Prelude.{◌≡◌, ◌<◌, min, false};
 ghost use Rattle.fields.specs.Source.{source};
 ghost use Rattle.fields.specs.Run.{Ran};

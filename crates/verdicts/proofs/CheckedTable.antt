@@ -11,7 +11,7 @@ use Rattle.patterns.specs.Every.{Every}
 use Rattle.patterns.specs.Certificate.{Mark, Claim, LineKind, unfolds, descends, Line, Closing, Certificate}
 use Rattle.patterns.specs.Reason.{Reason, line_place, closing_place}
 use Rattle.patterns.specs.Demand.{missing}
-use Rattle.patterns.specs.Judge.{Check, check, line_checks, loop_checks, closing_checks, Placed, place, reason, checks_from, checks, FirstBroken}
+use Rattle.patterns.specs.Judge.{Check, line_checks, loop_checks, closing_checks, Placed, place, reason, checks_from, checks, FirstBroken}
 use Rattle.patterns.specs.First.{Exp, Pair, Pace, one}
 use Rattle.patterns.proofs.Every.{below_listed, every_rest, every_append, every_weaken, every_map}
 use Rattle.grammar.specs.Books.{RuleBook}

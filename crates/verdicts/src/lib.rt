@@ -1,4 +1,6 @@
 // The line that the program prints for a verdict.
+#![tactic(auto)]
+
 ghost use Rattle.std.specs.Prelude.{◌≡◌, ◌+◌, ◌≤◌, length};
 ghost use Rattle.patterns.specs.Judge.{refuse};
 ghost use Rattle.answers.specs.Numbers.{paper_refusal, paper_verdict};

@@ -1,0 +1,15 @@
+-- `books::calls` meets its contract: it takes a call, and calls itself with a smaller count for those behind it.
+use mathlib.Core.Path.{refl}
+use Rattle.fields.proofs.Seqs.{seq_no, seq_on, seq_last}
+use Rattle.fields.proofs.Many.{many_none, many_some}
+use Rattle.books.proofs.Counting.{roots_many}
+use Rattle.books.proofs.+calls.Goals as goal
+
+pub returns-then-n-eq0 : goal.returns-then-n-eq0
+returns-then-n-eq0 t c = many_none (roots_many _) _ 0 c.if-n-eq0.true
+
+pub returns-in-No : goal.returns-in-No
+returns-in-No t c = many_some (roots_many _) _ 0 c.if-n-eq0.false (seq_no c.root_term.ensures _ c.in-No.is)
+
+pub returns-in-On : goal.returns-in-On
+returns-in-On t c = many_some (roots_many _) _ 0 c.if-n-eq0.false (seq_on c.root_term.ensures _ c.in-On.is (λ a q. seq_last _ (λ l. refl) c.calls.ensures))

@@ -1,0 +1,9 @@
+-- `comparing::rights::spent` meets its contract.
+use Rattle.comparing.proofs.Looking.{spent_met, spent_unmet}
+use Rattle.comparing.proofs.rights.spent.Goals as goal
+
+pub returns-then-is_empty : goal.returns-then-is_empty
+returns-then-is_empty c = spent_met c.is_empty.ensures c.if-is_empty.true
+
+pub returns : goal.returns
+returns c = spent_unmet c.is_empty.ensures c.if-is_empty.false

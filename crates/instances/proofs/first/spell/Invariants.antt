@@ -1,0 +1,10 @@
+-- `instances::first::spell` meets its contract. The loop's invariant: the nodes met so far were pushed.
+use Rattle.instances.specs.Filled.{itself}
+use Rattle.instances.proofs.Pushings.{Pushing}
+use Rattle.instances.proofs.first.spell.Given as goal
+
+abbrev pub invariant-loop-p : goal.invariant-loop-p
+invariant-loop-p l = Pushing itself l.book l.s l.at l.base l.count l.initial.w l.w l.n l.left l.p
+
+abbrev pub decreases-loop-p : goal.decreases-loop-p
+decreases-loop-p l = l.left

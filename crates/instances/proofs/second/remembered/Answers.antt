@@ -1,0 +1,7 @@
+-- `instances::second::remembered` meets its contract: the term before it, unless no power waits on either end and no node differs.
+use Rattle.instances.proofs.Passings.{held_new}
+use native.Mathlib.Omega.{arith}
+use Rattle.instances.proofs.second.remembered.Goals as goal
+
+pub returns : goal.returns
+returns c = held_new (omega arith) (omega arith) (omega arith)

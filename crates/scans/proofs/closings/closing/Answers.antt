@@ -1,0 +1,15 @@
+-- `scans::closings::closing` meets its contract.
+use mathlib.Core.Path.{refl}
+use Rattle.scans.proofs.Seqs.{seq_no, seq_at, seq_last}
+use Rattle.grammar.specs.Certificates.{a_closing}
+use Rattle.fields.specs.Kinds.{FieldKind as kind}
+use Rattle.fields.proofs.Ranges.{from_to_bounded}
+use Rattle.scans.proofs.closings.closing.Goals as goal
+
+pub returns-in-No : goal.returns-in-No
+unfolding a_closing
+returns-in-No c = seq_no (c.take.ensures.scans _ _ (from_to_bounded kind.named_line _ _)) _ c.in-No.is
+
+pub returns-in-On : goal.returns-in-On
+unfolding a_closing
+returns-in-On c = seq_at _ (c.take.ensures.scans _ _ (from_to_bounded kind.named_line _ _)) c.in-On.is (seq_last _ (λ y. refl) c.closed.ensures)

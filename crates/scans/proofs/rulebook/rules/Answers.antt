@@ -1,0 +1,25 @@
+-- `scans::rulebook::rules` meets its contract. The loop's invariant: the rules left lead to what the whole list comes to.
+use mathlib.Core.Path.{refl}
+use Rattle.scans.proofs.Rounds.{rounds_end, rounds_no, rounds_on}
+use Rattle.scans.proofs.Counting.{rule_few, notes_end, notes_no, notes_on}
+use Rattle.books.proofs.Counting.{rules_many}
+use Rattle.std.proofs.Common.{rules}
+use Rattle.scans.proofs.rulebook.rules.Goals as goal
+
+pub returns-in-No : goal.returns-in-No
+returns-in-No c = record {
+  walked = rounds_no (rules_many _) _ 0 c.loop-more.invariant.2 c.loop-more-test.true c.rule.ensures c.in-No.is;
+  counted = notes_no _ _ _ c.loop-more.invariant.3 c.loop-more-test.true c.rule.ensures c.in-No.is;
+}
+
+pub overflow_cast-m : goal.overflow_cast-m
+overflow_cast-m c = let h = rule_few _ c.rule.ensures c.in-On.is in search rules
+
+pub loop-more-preserved : goal.loop-more-preserved
+loop-more-preserved c = (search rules, search rules, rounds_on (rules_many _) _ 0 c.loop-more.invariant.2 c.loop-more-test.true c.rule.ensures 0 c.in-On.is (λ a e. refl) (λ a b. refl), notes_on _ _ _ c.loop-more.invariant.3 c.loop-more-test.true c.rule.ensures c.in-On.is c.note.ensures)
+
+pub returns : goal.returns
+returns c = record {
+  walked = rounds_end (rules_many _) _ 0 c.loop-more.invariant.2 c.loop-more-test.false;
+  counted = notes_end _ _ _ c.loop-more.invariant.3 c.loop-more-test.false;
+}

@@ -1,0 +1,6 @@
+-- `table::second::settle` meets its contract: where no power waits nothing changes; one that waits is the next settled node.
+use Rattle.table.proofs.Holding.{rest_power}
+use Rattle.table.proofs.second.settle.Goals as goal
+
+pub returns : goal.returns
+returns c = rest_power c.if-h-eq0.false c.parts_by_power.ensures
