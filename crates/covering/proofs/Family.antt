@@ -14,7 +14,7 @@ use Rattle.patterns.specs.Edition.{at}
 use Rattle.patterns.specs.Certificate.{Claim, Certificate, claim_of}
 use Rattle.patterns.specs.Claims.{FixedRule, FixedBook, Family, program}
 use Rattle.patterns.specs.Judge.{accept, judge}
-use Rattle.patterns.specs.First.{Exp, Pattern, Pair, Pace, exponents, value, Level, From, one}
+use Rattle.patterns.specs.First.{Exp, Pattern, Pair, Pace, exponents, value, Level, one}
 use Rattle.patterns.proofs.Every.{map_listed, every_listed}
 use Rattle.patterns.proofs.First.{accepted_never_stuck}
 use Rattle.covering.specs.Covers.{Covers, RootedRule, RootedBook}
@@ -23,7 +23,6 @@ use Rattle.covering.proofs.Counted.{clash}
 -- a call is covered exactly if it is in the family
 pub family_exactly : (l : Claim Exp) (s : Pace) (c : Pattern)
     → Family one l s (at one 0 c) ↔ ((i : ℕ) × Covers l.left s.α c i)
-unfolding From
 family_exactly l s c = (
   λ f. (f.index, record { from = f.from; filling = f.filling; call = sym f.call }),
   λ v. record { index = v.0; from = v.1.from; filling = v.1.filling; call = sym v.1.call },

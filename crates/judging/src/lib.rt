@@ -1,4 +1,6 @@
 // The judge over bytes: over a book and a certificate, and over the program's input that holds both.
+#![tactic(auto)]
+
 ghost use Rattle.std.specs.Prelude.{◌≡◌, ◌≤◌, ◌<◌, length, replicate};
 ghost use Rattle.table.specs.Places.{WORDS};
 ghost use Rattle.table.specs.Answer.{Says};
