@@ -37,7 +37,7 @@ def declared(text):
     for line in text.split("\n"):
         if line.lstrip().startswith("--"):
             continue
-        m = re.match(r"^\s*(?:(?:abbrev|pub|unfoldable|data|record|let)\s+)*((?:[^\s(){}\[\].,;:\"@]+\s+)*[^\s(){}\[\].,;:\"@]+)\s*:\s", line)
+        m = re.match(r"^\s*(?:(?:abbrev|pub|unfoldable|data|record|let)\s+)*((?:[^\s(){}\[\].,;:\"@]+\s+)*[^\s(){}\[\].,;:\"@]+)\s*:(?:\s|$)", line)
         if m:
             yield from m[1].split()
         m = re.match(r"^\s*(?:(?:pub|unfoldable|abbrev)\s+)*(?:data|record)\s+([^\s(){}\[\].,;:\"@]+)", line)

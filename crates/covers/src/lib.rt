@@ -1,4 +1,6 @@
 // Whether a call is in the family of an accepted certificate.
+#![tactic(auto)]
+
 ghost use Rattle.std.specs.Prelude.{◌≡◌, ◌≤◌, length, replicate};
 ghost use Rattle.table.specs.Places.{WORDS};
 ghost use Rattle.answers.specs.Numbers.{paper_pace, paper_coverage};

@@ -101,13 +101,13 @@ case_7 = (
 -- ---- beside the table
 
 -- 01: "Agreement at 1 and at 2 is enough; agreement at 0 is not": case 3's term and its normal form there
-pub zero-is-not-enough :
+pub zero_is_not_enough :
     (at one 0 (s 0 1 (r 1 0 (s 0 1 x))) ≡ at one 0 (s 0 2 x)) × ¬ (Same one (s 0 1 (r 1 0 (s 0 1 x))) (s 0 2 x))
 unfolding compute
-zero-is-not-enough = (refl, λ p. let z : ◌≡◌ {A = ℕ} 0 1 = cc in omega arith)
+zero_is_not_enough = (refl, λ p. let z : ◌≡◌ {A = ℕ} 0 1 = cc in omega arith)
 
 -- 01, "Closing", "Part 0: the line's right is not empty, else 14": the same lines, closed on line 1
-pub empty-right-gets-14 :
+pub empty_right_gets_14 :
     judge one w_book
     (record {
       lines = (certificate 1).lines;
@@ -115,7 +115,7 @@ pub empty-right-gets-14 :
     })
     ≡ refuse (record { number = 14; w = closing_place; a = 1; b = 0 })
 unfolding compute
-empty-right-gets-14 = refl
+empty_right_gets_14 = refl
 
 -- 01: "The empty mark has no nodes"
 pub empty_mark_weighs_nothing : weight one none ≡ 0

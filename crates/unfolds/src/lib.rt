@@ -10,6 +10,7 @@ use comparing::{Behind, Filled, Found, Subject, Whole};
 use table::OWN;
 
 // What stands behind the call where an unfold stops, the j-th of `count`.
+#[tactic(auto, using(crate::proofs::Calls::stays_pending, crate::proofs::Calls::stays_none))]
 fn behind_stop(j: usize, count: usize) -> Behind
     ensures { BehindStop j count result }
 {
