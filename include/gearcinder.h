@@ -1,5 +1,5 @@
-/* The proved judge, for C. Link libembed.a, which `rt staticlib embed` writes to
- * target/staticlib.
+/* The proved judge, for C. Link libembed.a, which `rt lib` in crates/embed writes to
+ * crates/embed/out.
  *
  * A slice is a pointer and a length, counted in its numbers. The pointer is
  * aligned and not null, also for a length of 0. A slice that is lent to be written

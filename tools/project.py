@@ -1,12 +1,13 @@
 """What the tools share: the project's files, their `use` lines, and what the antt files declare.
 
-No tool of its own. Everything here reads text as text; nothing asks the checker."""
+No tool of its own. Everything here reads text as text, but for `run_rt`, which asks the checker."""
 import os
 import re
+import subprocess
 import sys
 
 WORD = r"[^\s(){}\[\];,.⌜⌝\"@λ]"
-USE = re.compile(r"^(?:ghost |unfoldable |pub )*use\s+([^\s{};]+?)(?:\.\{([^}]*)\}| as (\S+?))?;?$", re.M)
+USE = re.compile(r"^\s*(?:ghost |unfoldable |pub )*use\s+([^\s{};]+?)(?:(?:\.|::)\{([^}]*)\}| as (\S+?))?;?$", re.M)
 MARKS = r"(?:(?:abbrev|unfoldable|pub)\s+)*"
 SIGNATURE = re.compile(rf"^({MARKS})({WORD}+)\s*:(?:\s|$)")
 TYPE = re.compile(rf"^({MARKS})(data|record)\s+({WORD}+)")
@@ -40,7 +41,7 @@ def at_root():
 def crates():
     """The crates that crates.txt names."""
     rows = (row.split("#")[0] for row in read("crates.txt").split("\n"))
-    return [row.split(":")[0].strip() for row in rows if ":" in row]
+    return [row.split(":")[0].split()[0] for row in rows if ":" in row]
 
 
 def known_crate(name):
@@ -57,11 +58,13 @@ def read(path):
         stop(f"{path}: {error.strerror}")
 
 
-def arguments(text):
-    """(start, end) of each argument of `tie.spec`: a name, or something in brackets."""
-    at = text.index("tie.spec") + len("tie.spec")
-    for found in re.finditer(r"\s+(\((?:[^()]|\([^()]*\))*\)|[^\s()]+)", text[at:]):
-        yield at + found.start(1), at + found.end(1)
+def run_rt(crate, *words):
+    """What `rt` says of a crate, on both of its streams."""
+    try:
+        run = subprocess.run(["rt", *words], cwd=f"crates/{crate}", stdin=subprocess.DEVNULL, capture_output=True, text=True)
+    except OSError as error:
+        stop(f"rt: {error.strerror}")
+    return run.stdout + run.stderr
 
 
 def sources(folder="crates", endings=(".antt", ".rt")):
@@ -69,7 +72,7 @@ def sources(folder="crates", endings=(".antt", ".rt")):
     if not os.path.isdir(folder):
         stop(f"no folder {folder}")
     for base, folders, files in sorted(os.walk(folder)):
-        folders[:] = sorted(f for f in folders if f != "target")
+        folders[:] = sorted(f for f in folders if f not in ("out", "target"))
         yield from (os.path.join(base, f) for f in sorted(files) if f.endswith(endings))
 
 
@@ -202,10 +205,9 @@ def declarations(path):
 def file_of(module):
     """The file that a module's path names, or None: those of the kit and those that the checker makes have none."""
     parts = module.split(".")
-    crate = re.match(r"Rattle·([a-z0-9_]+)(?:·(?:specs|proofs))?$", parts[0])
-    if not crate or len(parts) < 3 or parts[1] not in ("specs", "proofs"):
+    if len(parts) < 4 or parts[0] != "Rattle" or parts[2] not in ("specs", "proofs"):
         return None
-    path = f"crates/{crate.group(1)}/{'/'.join(parts[1:])}.antt"
+    path = f"crates/{'/'.join(parts[1:])}.antt"
     return path if os.path.isfile(path) else None
 
 
@@ -244,7 +246,7 @@ class Tree:
         """The declarations that a text names, in the order in which it names them."""
         found = []
         for word in words(text):
-            for name in (word, word.strip("_"), f"_{word}_"):
+            for name in (word, f"◌{word}◌", f"◌{word}", f"{word}◌"):
                 if name in scope and scope[name] not in found:
                     found.append(scope[name])
         return found

@@ -8,7 +8,7 @@ const FOLDER: &str = "GEARCINDER_LIB_DIR";
 fn main() {
     println!("cargo:rerun-if-env-changed={FOLDER}");
     let Ok(folder) = std::env::var(FOLDER) else {
-        panic!("set {FOLDER} to the folder of libembed.a; `rt staticlib embed` writes it to target/staticlib")
+        panic!("set {FOLDER} to the folder of libembed.a; `rt lib` in crates/embed writes it to crates/embed/out")
     };
     let library = Path::new(&folder).join("libembed.a");
     if !library.is_file() {

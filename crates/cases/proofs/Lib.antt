@@ -1,2 +1,2 @@
--- Parts of lent memory.
+-- Lines in lent memory.
 pub mod Parts

@@ -1,19 +1,7 @@
--- The first bytes of lent memory: after a part was read, and those that a line takes.
-use Prim.Native.Nat.{ℕ, ◌≤◌}
-use mathlib.Core.Path.{◌≡◌}
-use mathlib.Core.List.{List, ◌++◌}
-use native.Mathlib.Omega.{arith}
-use lib.ListN.{length, take, drop}
-use lib.Seq.{length_front}
-use Rattle.io.specs.Counts.{IsPrefixLen}
-use Rattle.io.proofs.Counting.{prefix_len_of_le}
+-- The bytes of lent memory that a line takes.
+use Rattle.std.proofs.Common.{ℕ, ◌≤◌, List, length, arith}
 use Rattle.verdicts.specs.Printing.{Prints}
 use Rattle.verdicts.proofs.Printed.{line_first}
-
--- a part that came back
-pub counts_again : {n : ℕ} (whole part : List ℕ) → n ≤ length whole → length part ≡ length (take n whole)
-    → IsPrefixLen n (part ++ drop n whole)
-counts_again {n} whole part h e = prefix_len_of_le n _ (omega (arith, length_front whole part n e))
 
 -- a line fits 91 bytes
 pub line_fits : (l out : List ℕ) {r : ℕ} {out' : List ℕ} → 91 ≤ length out → Prints l out r out' → r ≤ 91

@@ -1,12 +1,14 @@
 // Runs the packed vectors that standard input holds, and prints a line for each: its name, the answer, and the sum of
 // what the call left in the memory lent to it.
+#![tactic(auto)]
+
 mod sums;
 
 ghost use Rattle.std.specs.Prelude.{◌≡◌, ◌≤◌, length};
-ghost use Rattle.io.specs.Counts.{IsPrefixLen};
+ghost use Rattle.std.specs.Counts.{IsPrefixLen};
 
 use answers::{Answer, Coverage, Verdict};
-use libc::{STDIN_FILENO, STDOUT_FILENO};
+use std::io::Read;
 use sums::sum_of;
 
 // What stands before a vector's name and its files: the operation, and the length of each part.
@@ -67,31 +69,31 @@ fn file_length(length: u16, listed: bool) -> usize
     length as usize
 }
 
-// Reads the first n bytes of a part.
-fn fill(part: &mut [u8], n: usize)
+// Reads the first n bytes of a part. What the input has no byte for stays as it was.
+fn fill<R: Read>(input: &mut R, part: &mut [u8], n: usize)
     requires { n ≤ length part.old }
     ensures { IsPrefixLen n part.new }
 {
-    io::read_full(STDIN_FILENO, &mut part[..n]);
+    let _ = input.read_exact(&mut part[..n]);
 }
 
-fn read_number() -> u16 {
+fn read_number<R: Read>(input: &mut R) -> u16 {
     let mut two = [0u8; 2];
-    io::read_full(STDIN_FILENO, &mut two);
+    let _ = input.read_exact(&mut two);
     number(two[0], two[1])
 }
 
 // The length of the third file, which only a question for a call has.
-fn read_third(operation: u8) -> u16 {
+fn read_third<R: Read>(input: &mut R, operation: u8) -> u16 {
     match operation {
-        6 => read_number(),
+        6 => read_number(input),
         _ => 0,
     }
 }
 
-fn read_head() -> Head {
+fn read_head<R: Read>(input: &mut R) -> Head {
     let mut head = [0u8; 8];
-    io::read_full(STDIN_FILENO, &mut head);
+    let _ = input.read_exact(&mut head);
     let operation = head[0];
     Head {
         operation,
@@ -99,7 +101,7 @@ fn read_head() -> Head {
         room: number(head[2], head[3]),
         first: number(head[4], head[5]),
         second: number(head[6], head[7]),
-        third: read_third(operation),
+        third: read_third(input, operation),
     }
 }
 
@@ -118,54 +120,50 @@ fn fields_of(list: &[u8], fields: &mut [u16]) -> usize
     n
 }
 
-// ---- a line
+// ---- a line; a write that fails is passed over
 
 // Prints the name that comes next, and a space.
-fn print_name(length: u8) {
-    let mut name = io::buffer();
+fn print_name<R: Read>(rt: &impl Print, input: &mut R, length: u8) {
+    let mut name = [0u8; 256];
     let n = length as usize;
-    fill(&mut name, n);
-    io::write_all(STDOUT_FILENO, &name[..n]);
-    io::write_all(STDOUT_FILENO, b" ");
+    fill(input, &mut name, n);
+    let _ = rt.write_all(&name[..n]);
+    let _ = rt.write_all(b" ");
 }
 
 // Prints a verdict, without the newline of its line.
-fn print_verdict(verdict: Verdict) {
+fn print_verdict(rt: &impl Print, verdict: Verdict) {
     let mut line = [0u8; 91];
     let n = verdicts::verdict_line(verdict, &mut line);
     if n > 0 {
         let end = n - 1;
-        io::write_all(STDOUT_FILENO, &line[..end]);
+        let _ = rt.write_all(&line[..end]);
     }
 }
 
 // Prints what reading or writing answers.
-fn print_answer(said: Answer) {
+fn print_answer(rt: &impl Print, said: Answer) {
     match said {
         Answer::Filled(n) => {
-            io::write_all(STDOUT_FILENO, b"filled ");
-            io::print_decimal(STDOUT_FILENO, n as u64);
+            let _ = print!(rt; "filled {n}");
         }
-        Answer::Refused(r) => print_verdict(Verdict::Refused(r)),
+        Answer::Refused(r) => print_verdict(rt, Verdict::Refused(r)),
     }
 }
 
 // Prints what is answered for a call.
-fn print_coverage(coverage: Coverage) {
+fn print_coverage(rt: &impl Print, coverage: Coverage) {
     match coverage {
         Coverage::Covered(i) => {
-            io::write_all(STDOUT_FILENO, b"covered ");
-            io::print_decimal(STDOUT_FILENO, i as u64);
+            let _ = print!(rt; "covered {i}");
         }
-        Coverage::Refused(r) => print_verdict(Verdict::Refused(r)),
+        Coverage::Refused(r) => print_verdict(rt, Verdict::Refused(r)),
     }
 }
 
 // Prints the sum of what was left, and ends the line.
-fn print_left(sum: u64) {
-    io::write_all(STDOUT_FILENO, b" left ");
-    io::print_decimal(STDOUT_FILENO, sum);
-    io::write_all(STDOUT_FILENO, b"\n");
+fn print_left(rt: &impl Print, sum: u64) {
+    let _ = println!(rt; " left {sum}");
 }
 
 // ---- the operations: 0 and 1 judge, 2 and 3 read, 4 and 5 write, 6 asks for a call
@@ -203,76 +201,83 @@ fn write_files(operation: u8, first: &[u8], second: &[u8], out: &mut [u8]) -> An
     }
 }
 
-fn run_judge(operation: u8, room: u16, first: &[u8], second: &[u8]) {
+fn run_judge(rt: &impl Print, operation: u8, room: u16, first: &[u8], second: &[u8]) {
     let mut space = numbers();
     let n = room as usize;
     let work = &mut space[..n];
-    print_verdict(judge_files(operation, first, second, work));
+    print_verdict(rt, judge_files(operation, first, second, work));
     let fields = [0u16; 0];
     let bytes = [0u8; 0];
-    print_left(sum_of(work, &fields, &bytes, n));
+    print_left(rt, sum_of(work, &fields, &bytes, n));
 }
 
-fn run_read(operation: u8, room: u16, first: &[u8], second: &[u8]) {
+fn run_read(rt: &impl Print, operation: u8, room: u16, first: &[u8], second: &[u8]) {
     let mut space = places();
     let n = room as usize;
     let out = &mut space[..n];
-    print_answer(read_files(operation, first, second, out));
+    print_answer(rt, read_files(operation, first, second, out));
     let numbers = [0u64; 0];
     let bytes = [0u8; 0];
-    print_left(sum_of(&numbers, out, &bytes, n));
+    print_left(rt, sum_of(&numbers, out, &bytes, n));
 }
 
-fn run_write(operation: u8, room: u16, first: &[u8], second: &[u8]) {
+fn run_write(rt: &impl Print, operation: u8, room: u16, first: &[u8], second: &[u8]) {
     let mut space = bytes();
     let n = room as usize;
     let out = &mut space[..n];
-    print_answer(write_files(operation, first, second, out));
+    print_answer(rt, write_files(operation, first, second, out));
     let numbers = [0u64; 0];
     let fields = [0u16; 0];
-    print_left(sum_of(&numbers, &fields, out, n));
+    print_left(rt, sum_of(&numbers, &fields, out, n));
 }
 
-fn run_covers(room: u16, first: &[u8], second: &[u8], third: &[u8]) {
+fn run_covers(rt: &impl Print, room: u16, first: &[u8], second: &[u8], third: &[u8]) {
     let mut space = numbers();
     let n = room as usize;
     let work = &mut space[..n];
-    print_coverage(covers::covers(first, second, third, work));
+    print_coverage(rt, covers::covers(first, second, third, work));
     let fields = [0u16; 0];
     let bytes = [0u8; 0];
-    print_left(sum_of(work, &fields, &bytes, n));
+    print_left(rt, sum_of(work, &fields, &bytes, n));
 }
 
-fn run(operation: u8, room: u16, first: &[u8], second: &[u8], third: &[u8]) {
+fn run(rt: &impl Print, operation: u8, room: u16, first: &[u8], second: &[u8], third: &[u8]) {
     match operation {
-        0 | 1 => run_judge(operation, room, first, second),
-        2 | 3 => run_read(operation, room, first, second),
-        4 | 5 => run_write(operation, room, first, second),
-        _ => run_covers(room, first, second, third),
+        0 | 1 => run_judge(rt, operation, room, first, second),
+        2 | 3 => run_read(rt, operation, room, first, second),
+        4 | 5 => run_write(rt, operation, room, first, second),
+        _ => run_covers(rt, room, first, second, third),
     }
 }
 
 // Reads a vector, runs it and prints its line.
-fn run_next() {
-    let head = read_head();
-    print_name(head.name);
+fn run_next<R: Read>(rt: &impl Print, input: &mut R) {
+    let head = read_head(input);
+    print_name(rt, input, head.name);
     let operation = head.operation;
     let n = file_length(head.first, operation == 4);
     let m = file_length(head.second, operation == 5);
     let mut first = file();
-    fill(&mut first, n);
+    fill(input, &mut first, n);
     let mut second = file();
-    fill(&mut second, m);
+    fill(input, &mut second, m);
     let k = file_length(head.third, false);
     let mut third = file();
-    fill(&mut third, k);
-    run(operation, head.room, &first[..n], &second[..m], &third[..k]);
+    fill(input, &mut third, k);
+    run(
+        rt,
+        operation,
+        head.room,
+        &first[..n],
+        &second[..m],
+        &third[..k],
+    );
 }
 
-fn main() {
-    let mut left = read_number();
-    while left > 0 {
-        run_next();
-        left -= 1;
+fn main(rt: HostRuntime) {
+    let mut input = rt.stdin();
+    let count = read_number(&mut input);
+    for _ in 0..count {
+        run_next(&rt, &mut input);
     }
 }

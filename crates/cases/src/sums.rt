@@ -30,10 +30,8 @@ fn left_at(numbers: &[u64], fields: &[u16], bytes: &[u8], i: usize) -> u64 {
 // The sum of the first n places.
 pub(crate) fn sum_of(numbers: &[u64], fields: &[u16], bytes: &[u8], n: usize) -> u64 {
     let mut sum = 0;
-    let mut i = 0;
-    while i < n {
+    for i in 0..n {
         sum = summed(sum, left_at(numbers, fields, bytes, i));
-        i += 1;
     }
     sum
 }

@@ -1,3 +1,2 @@
--- The laws of the answers as numbers, and that the promises of the door leave no choice.
-pub mod Telling
+-- The promises of the door leave no choice.
 pub mod OneAnswer

@@ -1,10 +1,5 @@
 -- No second answer and no second memory fit a promise of the door, and the five numbers tell which answer it is.
-use Prim.Native.Nat.{ℕ}
-use mathlib.Core.Path.{◌≡◌, refl, sym}
-use mathlib.Core.List.{List}
-use mathlib.Core.Bool.{cond}
-use lib.ListN.{length, get_or}
-use lib.Dec.{eqb}
+use Rattle.std.proofs.Common.{ℕ, ◌≡◌, refl, sym, List, cond, length, get_or, nat_eq}
 use Rattle.answers.proofs.Inverses.{inverse_tells}
 use Rattle.answers.specs.Numbers.{Told, filled_with, refused_with, Reply, covered_at, denied}
 use Rattle.patterns.specs.First.{Pace}
@@ -36,7 +31,7 @@ abbrev refusal_read : List ℕ → Reason
 refusal_read ns = record { number = get_or ns 1 0; w = get_or ns 2 0; a = get_or ns 3 0; b = get_or ns 4 0 }
 
 abbrev answer_read : List ℕ → Told
-answer_read ns = cond (eqb (get_or ns 0 0) 0) (filled_with (get_or ns 1 0)) (refused_with (refusal_read ns))
+answer_read ns = cond (nat_eq (get_or ns 0 0) 0) (filled_with (get_or ns 1 0)) (refused_with (refusal_read ns))
 
 answer_back : (t : Told) → answer_read (answer_numbers t) ≡ t
 unfolding answer_numbers refusal_numbers
@@ -48,7 +43,7 @@ answer_tells = inverse_tells answer_numbers answer_read answer_back
 
 abbrev verdict_read : List ℕ → Ruling Pace
 verdict_read ns =
-    cond (eqb (get_or ns 0 0) 0) (accept (get_or ns 1 0) (record { k = get_or ns 2 0; α = get_or ns 3 0 })) (refuse (refusal_read ns))
+    cond (nat_eq (get_or ns 0 0) 0) (accept (get_or ns 1 0) (record { k = get_or ns 2 0; α = get_or ns 3 0 })) (refuse (refusal_read ns))
 
 verdict_back : (v : Ruling Pace) → verdict_read (verdict_numbers v) ≡ v
 unfolding verdict_numbers refusal_numbers
@@ -59,7 +54,7 @@ pub verdict_tells : (v w : Ruling Pace) → verdict_numbers v ≡ verdict_number
 verdict_tells = inverse_tells verdict_numbers verdict_read verdict_back
 
 abbrev coverage_read : List ℕ → Reply
-coverage_read ns = cond (eqb (get_or ns 0 0) 0) (covered_at (get_or ns 1 0)) (denied (refusal_read ns))
+coverage_read ns = cond (nat_eq (get_or ns 0 0) 0) (covered_at (get_or ns 1 0)) (denied (refusal_read ns))
 
 coverage_back : (c : Reply) → coverage_read (coverage_numbers c) ≡ c
 unfolding coverage_numbers refusal_numbers

@@ -2,6 +2,8 @@
 // five numbers. A refusal is 1, its number, W, A and B. A verdict that accepts is 0, the line, k, α and 0; a call that
 // is covered is 0, the index and three zeros; a file that was read or written is 0, how many places were filled and
 // three zeros.
+#![tactic(auto)]
+
 ghost use Rattle.std.specs.Prelude.{◌≡◌};
 ghost use Rattle.patterns.specs.Reason.{book_place, certificate_place};
 ghost use Rattle.layout.specs.Answers.{
@@ -22,6 +24,7 @@ ghost use Rattle.embed.specs.Promises.{FileTold, JudgeTold, CallTold};
 use answers::{Answer, Coverage, Refusal, Verdict};
 
 // The numbers of a refusal.
+#[tactic(auto, unfolding(crate::specs::Numbers::refusal_numbers, answers::specs::Numbers::paper_refusal))]
 fn refusal_numbers(r: Refusal) -> [u64; 5]
     ensures { result ≡ refusal_numbers (paper_refusal r) }
 {
@@ -32,6 +35,7 @@ fn refusal_numbers(r: Refusal) -> [u64; 5]
 }
 
 // The numbers of what reading or writing answers.
+#[tactic(auto, unfolding(crate::specs::Numbers::answer_numbers, answers::specs::Numbers::paper_answer))]
 fn answer_numbers(said: Answer) -> [u64; 5]
     ensures { result ≡ answer_numbers (paper_answer said) }
 {
@@ -42,6 +46,7 @@ fn answer_numbers(said: Answer) -> [u64; 5]
 }
 
 // The numbers of a verdict.
+#[tactic(auto, unfolding(crate::specs::Numbers::verdict_numbers, answers::specs::Numbers::paper_verdict, answers::specs::Numbers::paper_pace))]
 fn verdict_numbers(verdict: Verdict) -> [u64; 5]
     ensures { result ≡ verdict_numbers (paper_verdict verdict) }
 {
@@ -52,6 +57,7 @@ fn verdict_numbers(verdict: Verdict) -> [u64; 5]
 }
 
 // The numbers of what is answered for a call.
+#[tactic(auto, unfolding(crate::specs::Numbers::coverage_numbers, answers::specs::Numbers::paper_coverage))]
 fn coverage_numbers(coverage: Coverage) -> [u64; 5]
     ensures { result ≡ coverage_numbers (paper_coverage coverage) }
 {

@@ -1,11 +1,7 @@
 -- The line of an input's verdict, in the bytes that are lent for it.
-use Prim.Native.Nat.{ℕ, ◌≤◌}
-use mathlib.Core.Path.{◌≡◌, ◌∙◌, ap, sym}
-use mathlib.Core.List.{List}
-use native.Mathlib.Omega.{arith}
-use lib.ListN.{length, take, length-take}
+use Rattle.std.proofs.Common.{ℕ, ◌≤◌, ◌≡◌, ◌∙◌, ap, sym, List, length, take, arith, length-take}
 use Rattle.answers.specs.Numbers.{paper_verdict}
-use Rattle.io.specs.Counts.{IsPrefixLen}
+use Rattle.std.specs.Counts.{IsPrefixLen}
 use Rattle.patterns.specs.First.{Pace}
 use Rattle.patterns.specs.Judge.{Ruling}
 use Rattle.answers.specs.declared.Verdict.{Verdict}
