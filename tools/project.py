@@ -71,7 +71,7 @@ def sources(folder="crates", endings=(".antt", ".rt")):
     """Every file of code below a folder, in order."""
     if not os.path.isdir(folder):
         stop(f"no folder {folder}")
-    for base, folders, files in sorted(os.walk(folder)):
+    for base, folders, files in os.walk(folder):
         folders[:] = sorted(f for f in folders if f not in ("out", "target"))
         yield from (os.path.join(base, f) for f in sorted(files) if f.endswith(endings))
 

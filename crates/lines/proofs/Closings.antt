@@ -74,7 +74,7 @@ module _ {book cert w v : List ℕ} {left right : ℕ} {r : Found} (first : Chec
     loop_found : {ars : List ℕ} {B : Book Exp} {es : List (Claim Exp)} → Known book cert w ars B es → (d : Closing Exp Pace) → d.pace ≡ pace_of k α
         → FillsTold book cert w USED (by d.fills) → (l : Claim Exp) → ClaimAt cert ars left right l → (m : Mark Exp) → l.right ≡ m
         → (end : ℕ) × Finds (loop_checks one l d m) end s
-    unfolding loop_checks from to asked_at checks_of end_of Met
+    unfolding loop_checks asked_at checks_of end_of Met
     loop_found {ars} {B} {es} known d p filled l here none q =
         absurd (none-ne-some _ (sym (at_good (there_found known here) good).0 ∙ fault_unmet _ [] (λ z. z q)))
     loop_found {ars} {B} {es} known d p filled l here (some u) q =
