@@ -9,7 +9,7 @@ use Rattle.answers.specs.Carried.{carried}
 use Rattle.answers.specs.Numbers.{paper_verdict}
 use Rattle.patterns.specs.Term.{fill}
 use Rattle.patterns.specs.Reason.{closing_place}
-use Rattle.patterns.specs.First.{Exp, Pace, one, from, to}
+use Rattle.patterns.specs.First.{Exp, Pace, one}
 use Rattle.patterns.specs.Edition.{reindex}
 use Rattle.patterns.specs.Derive.{Book}
 use Rattle.patterns.specs.Certificate.{by, Claim, Mark, Closing}

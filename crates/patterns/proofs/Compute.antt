@@ -12,8 +12,8 @@ use Rattle.patterns.specs.Checks.{Pending, OnMark, SameMark, instance, Stopped, 
 use Rattle.patterns.specs.Parting.{nodes_of_mark, common}
 use Rattle.patterns.specs.Demand.{weight, Met, parting, mark?, level?, met?}
 use Rattle.patterns.specs.Judge.{compare, given, pending, sole, parts, stops, line_checks, loop_checks, closing_checks, checks_from, checks, first_unmet, ruling, judge}
-use Rattle.patterns.specs.First.{exponents, exp?, value, act, shift, Level, level_exp?, from, to, From}
+use Rattle.patterns.specs.First.{exponents, exp?, value, act, shift, Level, level_exp?}
 
 unfoldable pub compute : Unit {0}
-unfolding Dec.and ℕ_discrete dec_le fill exps times plain All size nodes over power norm Every pair_discrete alone more at reindex form Same by Pending OnMark SameMark instance Stopped Stops Checked Lines nodes_of_mark common weight Met parting mark? level? met? compare given pending sole parts stops line_checks loop_checks closing_checks checks_from checks first_unmet ruling judge exponents exp? value act shift Level level_exp? from to From
+unfolding Dec.and ℕ_discrete dec_le fill exps times plain All size nodes over power norm Every pair_discrete alone more at reindex form Same by Pending OnMark SameMark instance Stopped Stops Checked Lines nodes_of_mark common weight Met parting mark? level? met? compare given pending sole parts stops line_checks loop_checks closing_checks checks_from checks first_unmet ruling judge exponents exp? value act shift Level level_exp?
 compute = tt
