@@ -1,8 +1,7 @@
 -- Fields of bits in a list of bytes, most significant bit first: the bit at a place, the number at a place, and what `take` answers.
 -- Assumes nothing: these are definitions.
-use Rattle.std.specs.Prelude.{ℕ, zero, suc, ◌+◌, ◌-◌, ◌*◌, ◌/◌, ◌%◌, ◌^◌, ◌<◌, min, List, Bool, ◌&&◌, cond, length, get_or, leb}
-use Rattle.bits.specs.declared.Taken.{Taken}
-use Rattle.bits.specs.declared.Taken.TheVariants.{Got, Past}
+use Rattle.std.specs.Prelude.{ℕ, zero, suc, ◌+◌, ◌-◌, ◌*◌, ◌/◌, ◌%◌, ◌^◌, ◌<◌, min, List, Bool, ◌&&◌, cond, length, get_or, leb, Option, Some, None}
+use Rattle.bits.specs.declared.Cursor.{Cursor}
 
 -- the byte at place i, 0 past the end
 abbrev pub byte_at : List ℕ → ℕ → ℕ
@@ -33,6 +32,10 @@ room_of s = min (8 * length s) (2 ^ 32)
 abbrev pub fits : List ℕ → ℕ → ℕ → Bool
 fits s w at = leb w 16 && leb (at + w) (room_of s)
 
+-- what stands at a cursor: a field's value and the cursor past it; or nothing, where the field begins or runs past the end
+abbrev pub Taken : Type 0
+Taken = Option (ℕ × Cursor)
+
 -- the field of w bits at place `at` with the cursor past it, where it fits
 unfoldable pub read_field : List ℕ → ℕ → ℕ → Taken
-read_field s w at = cond (fits s w at) (Got (bits_at s at w) (record { at = at + w })) Past
+read_field s w at = cond (fits s w at) (Some (bits_at s at w, record { at = at + w })) None

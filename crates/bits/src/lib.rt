@@ -13,13 +13,9 @@ pub struct Cursor {
     pub at: usize,
 }
 
-// What stands at a cursor: a field's value and the cursor past it; or `Past`, where the field begins or runs past the end.
+// What stands at a cursor: a field's value and the cursor past it; or nothing, where the field begins or runs past the end.
 // A field of more than 16 bits is never there.
-#[derive(Clone, Copy)]
-pub enum Taken {
-    Got(u16, Cursor),
-    Past,
-}
+pub type Taken = Option<(u16, Cursor)>;
 
 // How many bits there are, counted up to 2 ^ 32.
 pub fn room(s: &[u8]) -> usize
@@ -172,9 +168,9 @@ impl Cursor {
         if has_room(s, w, at) {
             let x = window(s, at / 8);
             let v = (x >> (24 - at % 8 - w)) % (1 << w);
-            Taken::Got(v as u16, Cursor { at: at + w })
+            Some((v as u16, Cursor { at: at + w }))
         } else {
-            Taken::Past
+            None
         }
     }
 

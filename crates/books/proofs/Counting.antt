@@ -1,4 +1,5 @@
 -- The grammars of a book that ask for n things, how many calls a rule has, and what is noted of it.
+use Rattle.std.specs.Prelude.{Ok, Err}
 use Prim.Native.Nat.{ℕ, ◌+◌, ◌-◌, ◌<◌, ◌≤◌}
 use mathlib.Core.Path.{◌≡◌, refl, sym, ◌∙◌, ap, subst}
 use mathlib.Core.List.{List, [], ◌∷◌}
@@ -8,8 +9,7 @@ use lib.ListN.{length, set}
 use Rattle.patterns.specs.First.{Exp}
 use Rattle.patterns.specs.Derive.{Rule, Book}
 use Rattle.fields.specs.declared.Walker.{Walker}
-use Rattle.fields.specs.declared.Walk.{Walk}
-use Rattle.fields.specs.declared.Walk.TheVariants.{On, No}
+use Rattle.fields.specs.Source.{Walk}
 use Rattle.fields.specs.Source.{Source}
 use Rattle.fields.specs.Kinds.{from_to}
 use Rattle.fields.specs.Kinds.{FieldKind as kind}
@@ -46,13 +46,13 @@ rule_calls ar n =
 
 -- so the walk may hand back that number
 pub rule_counted : {src : Source} (ar : ℕ → ℕ) (n : ℕ) {c d : Walker} {ws bs ws₁ bs₁ : List ℕ} {r : Walk} {v : ℕ}
-    → Ran src (a_rule_of ar n) c ws bs nothing r ws₁ bs₁ → r ≡ On v d
-    → Ran src (a_rule_of ar n) c ws bs calls_of (On n d) ws₁ bs₁
+    → Ran src (a_rule_of ar n) c ws bs nothing r ws₁ bs₁ → r ≡ Ok (v, d)
+    → Ran src (a_rule_of ar n) c ws bs calls_of (Ok (n, d)) ws₁ bs₁
 rule_counted ar n h e = always_told h e calls_of n (rule_calls ar n)
 
 -- a rule has at most 8 calls
 pub rule_few : {src : Source} (ar : ℕ → ℕ) {c d : Walker} {ws bs ws₁ bs₁ : List ℕ} {r : Walk} {n : ℕ}
-    → Ran src (a_rule ar) c ws bs calls_of r ws₁ bs₁ → r ≡ On n d → n ≤ 8
+    → Ran src (a_rule ar) c ws bs calls_of r ws₁ bs₁ → r ≡ Ok (n, d) → n ≤ 8
 unfolding a_rule
 rule_few ar h e =
     always_handed h e (λ k. k ≤ 8)
@@ -75,14 +75,14 @@ module _ {src : Source} (ar : ℕ → ℕ) (n k : ℕ) {c : Walker} {ws bs cs : 
       empty rs τ e = cc
 
   module _ {r : Walk} {ws₁ bs₁ : List ℕ} (first : Ran src (a_rule ar) c ws bs calls_of r ws₁ bs₁) {m : ℕ} {d : Walker} (some : n ≢ 0) where
-    pub counted_no : r ≡ No m d → Counted src (rules_of ar n) (state c ws bs) k cs cs
+    pub counted_no : r ≡ Err (m, d) → Counted src (rules_of ar n) (state c ws bs) k cs cs
     unfolding go_on
     counted_no e = record { all = λ rs τ q. absurd (never rs τ (sym (rules_step src ar n (state c ws bs) some ∙ ap (go_on src _) (refused first e)) ∙ q)) }
       where
         never : (rs : Book Exp) (τ : State) → ◌≡◌ {A = Result (Book Exp)} (no m (state d ws₁ bs₁)) (ok rs τ) → ⊥
         never rs τ q = let z : ◌≡◌ {A = ℕ} 0 1 = cc in omega arith
 
-    pub counted_more : {mid after : List ℕ} → r ≡ On m d → mid ≡ set cs k m
+    pub counted_more : {mid after : List ℕ} → r ≡ Ok (m, d) → mid ≡ set cs k m
         → Counted src (rules_of ar (n - 1)) (state d ws₁ bs₁) (k + 1) mid after
         → Counted src (rules_of ar n) (state c ws bs) k cs after
     unfolding go_on noted call_counts
@@ -108,23 +108,23 @@ module _ {src : Source} (ar : ℕ → ℕ) (n k : ℕ) {c : Walker} {ws bs cs : 
         last one v rs τ (no j υ) g q = let z : ◌≡◌ {A = ℕ} 0 1 = cc in absurd (omega arith)
 
 pub rule_refused : {src : Source} (ar : ℕ → ℕ) (n : ℕ) {c d : Walker} {ws bs ws₁ bs₁ : List ℕ} {r : Walk} {m : ℕ}
-    → Ran src (a_rule_of ar n) c ws bs nothing r ws₁ bs₁ → r ≡ No m d
-    → Ran src (a_rule_of ar n) c ws bs calls_of (No m d) ws₁ bs₁
+    → Ran src (a_rule_of ar n) c ws bs nothing r ws₁ bs₁ → r ≡ Err (m, d)
+    → Ran src (a_rule_of ar n) c ws bs calls_of (Err (m, d)) ws₁ bs₁
 rule_refused ar n h e = ran_no (refused h e)
 
 -- ---- the whole list
 
 module _ {src : Source} (ar : ℕ → ℕ) (n : ℕ) {c d : Walker} {ws bs ws₁ bs₁ : List ℕ} {r : Walk} (h : Ran src (rules_of ar n) c ws bs nothing r ws₁ bs₁) where
   -- there are as many rules as were asked for
-  pub rules_all : {v : ℕ} → r ≡ On v d → Ran src (rules_of ar n) c ws bs how_many_rules (On n d) ws₁ bs₁
+  pub rules_all : {v : ℕ} → r ≡ Ok (v, d) → Ran src (rules_of ar n) c ws bs how_many_rules (Ok (n, d)) ws₁ bs₁
   rules_all e = always_told h e how_many_rules n (many_length (rules_of ar) (a_rule ar) (λ r. r) (rules_many ar) n)
 
-  pub rules_refused : {m : ℕ} → r ≡ No m d → Ran src (rules_of ar n) c ws bs how_many_rules (No m d) ws₁ bs₁
+  pub rules_refused : {m : ℕ} → r ≡ Err (m, d) → Ran src (rules_of ar n) c ws bs how_many_rules (Err (m, d)) ws₁ bs₁
   rules_refused e = ran_no (refused h e)
 
 -- what is noted of a part is noted of the whole
 module _ {src : Source} {c d : Walker} {ws bs ws₁ bs₁ : List ℕ} {r : Walk} {m : ℕ} where
-  pub list_no : (p : Grammar ℕ) (f : ℕ → Grammar (Book Exp)) (k : ℕ) {cs : List ℕ} → Ran src p c ws bs (λ v. v) r ws₁ bs₁ → r ≡ No m d
+  pub list_no : (p : Grammar ℕ) (f : ℕ → Grammar (Book Exp)) (k : ℕ) {cs : List ℕ} → Ran src p c ws bs (λ v. v) r ws₁ bs₁ → r ≡ Err (m, d)
       → Counted src (bind p f) (state c ws bs) k cs cs
   unfolding go_on
   list_no p f k h e = record {
@@ -134,7 +134,7 @@ module _ {src : Source} {c d : Walker} {ws bs ws₁ bs₁ : List ℕ} {r : Walk}
         let y : ◌≡◌ {A = ℕ} 0 1 = cc in absurd (omega arith);
   }
 
-  pub list_on : (p : Grammar ℕ) (f : ℕ → Grammar (Book Exp)) (k : ℕ) {cs after : List ℕ} → Ran src p c ws bs (λ v. v) r ws₁ bs₁ → r ≡ On m d
+  pub list_on : (p : Grammar ℕ) (f : ℕ → Grammar (Book Exp)) (k : ℕ) {cs after : List ℕ} → Ran src p c ws bs (λ v. v) r ws₁ bs₁ → r ≡ Ok (m, d)
       → Counted src (f m) (state d ws₁ bs₁) k cs after → Counted src (bind p f) (state c ws bs) k cs after
   unfolding go_on
   list_on p f k h e rest = record {

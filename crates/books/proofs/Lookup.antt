@@ -1,4 +1,5 @@
 -- The arities that the code looks up are those that the walk has read.
+use Rattle.std.specs.Prelude.{Ok}
 use Prim.Native.Nat.{ℕ, zero, suc, ◌+◌, ◌*◌, ◌<◌}
 use mathlib.Core.Path.{◌≡◌, refl, sym, ◌∙◌, ap, subst, fun_ext}
 use mathlib.Core.List.{List, [], ◌∷◌, flat_map}
@@ -7,7 +8,6 @@ use native.Mathlib.Omega.{arith}
 use native.Mathlib.Decide.{dec_lt}
 use lib.ListN.{length, get_or, get_or-eq_default}
 use Rattle.fields.specs.declared.Walker.{Walker}
-use Rattle.fields.specs.declared.Field.TheVariants.{Got}
 use Rattle.fields.specs.Source.{Source, source, field_at, moved, start}
 use Rattle.fields.specs.Run.{State, state, run}
 use Rattle.fields.specs.Run.Result.{ok}
@@ -23,7 +23,7 @@ use Rattle.terms.proofs.Symbols.{no_arity, some_arity, number_is}
 
 -- the f-th of the arities that a source hands out one after the other
 given_arity : (src : Source) (c : Walker) (ars : List ℕ) → Gives src c (flat_map arity_fields ars) → (f : ℕ) → f < length ars
-    → src 4 (record { bit = c.bit + 4 * f; n = c.n + f; listed = c.listed }) ≡ Got (get_or ars f 16)
+    → src 4 (record { bit = c.bit + 4 * f; n = c.n + f; listed = c.listed }) ≡ Ok (get_or ars f 16)
 unfolding flat_map arity_fields Gives
 given_arity src c [] g f h = absurd (omega arith)
 given_arity src c (a ∷ l) g zero h = ap (src 4) (λ i. record { bit = (p i); n = (q i); listed = c.listed }) ∙ g.0
@@ -55,7 +55,7 @@ module _ (s l : List ℕ) (listed : Bool) (ws bs ars : List ℕ) (τ : State) (r
   count = sym (number_is s l 8 (start listed) 0 (sym handed.0))
 
   each : (f : ℕ) → f < length ars
-      → field_at s l 4 (record { bit = 8 + 4 * f; n = 1 + f; listed = listed }) ≡ Got (get_or ars f 16)
+      → field_at s l 4 (record { bit = 8 + 4 * f; n = 1 + f; listed = listed }) ≡ Ok (get_or ars f 16)
   unfolding Gives signature_fields
   each f h = given_arity (source s l) (moved 8 (start listed)) ars handed.1 f h
 

@@ -1,4 +1,5 @@
 -- What a loop over rules keeps of the numbers that it notes: if those of the rules left are noted behind them, all are.
+use Rattle.std.specs.Prelude.{Ok, Err}
 use Prim.Native.Nat.{ℕ, ◌+◌, ◌-◌, ◌≤◌, ◌<◌}
 use mathlib.Core.Path.{◌≡◌}
 use mathlib.Core.List.{List}
@@ -7,8 +8,7 @@ use lib.ListN.{set}
 use Rattle.patterns.specs.First.{Exp}
 use Rattle.patterns.specs.Derive.{Book}
 use Rattle.fields.specs.declared.Walker.{Walker}
-use Rattle.fields.specs.declared.Walk.{Walk}
-use Rattle.fields.specs.declared.Walk.TheVariants.{On, No}
+use Rattle.fields.specs.Source.{Walk}
 use Rattle.fields.specs.Source.{Source}
 use Rattle.fields.specs.Grammar.{Grammar}
 use Rattle.fields.specs.Run.{State, state, Ran}
@@ -29,9 +29,9 @@ module _ {src : Source} (ar : ℕ → ℕ) {p : Grammar (Book Exp)} {σ : State}
   notes_end h = N.whole (counted_none ar n j (omega arith))
 
   module _ {r : Walk} {ws₁ bs₁ : List ℕ} {d : Walker} {m : ℕ} (some : 0 < n) (first : Ran src (a_rule ar) c ws bs calls_of r ws₁ bs₁) where
-    pub notes_no : r ≡ No m d → Counted src p σ k cs ds
+    pub notes_no : r ≡ Err (m, d) → Counted src p σ k cs ds
     notes_no e = N.whole (counted_no ar n j first (λ z. omega arith) e)
 
-    pub notes_on : {es : List ℕ} → r ≡ On m d → es ≡ set ds j m
+    pub notes_on : {es : List ℕ} → r ≡ Ok (m, d) → es ≡ set ds j m
         → NotesCalls src p σ k cs (rules_of ar (n - 1)) (state d ws₁ bs₁) (j + 1) es
     notes_on e s = record { whole = λ h. N.whole (counted_more ar n j first (λ z. omega arith) e s h) }

@@ -1,4 +1,5 @@
 -- The walk over a whole book: its rules are read with the arities that stand before them.
+use Rattle.std.specs.Prelude.{Ok, Err}
 use Prim.Native.Nat.{ℕ}
 use mathlib.Core.Path.{◌≡◌, refl, sym, ◌∙◌, ap, subst}
 use mathlib.Core.List.{List}
@@ -7,8 +8,7 @@ use native.Mathlib.Omega.{arith}
 use Rattle.patterns.specs.First.{Exp}
 use Rattle.patterns.specs.Derive.{Book}
 use Rattle.fields.specs.declared.Walker.{Walker}
-use Rattle.fields.specs.declared.Walk.{Walk}
-use Rattle.fields.specs.declared.Walk.TheVariants.{On, No}
+use Rattle.fields.specs.Source.{Walk}
 use Rattle.fields.specs.Source.{source, start}
 use Rattle.fields.specs.Grammar.{done}
 use Rattle.fields.specs.Run.{State, state, Result, run, Ran}
@@ -23,7 +23,7 @@ use Rattle.books.proofs.Lookup.{arity_known}
 
 module _ (s l : List ℕ) (listed : Bool) {ws bs ws₁ bs₁ : List ℕ} {r : Walk} {d : Walker}
     (first : Ran (source s l) a_signature (start listed) ws bs nothing r ws₁ bs₁) where
-  pub book_on : {v : ℕ} {r₂ : Walk} {ws₂ bs₂ : List ℕ} → r ≡ On v d
+  pub book_on : {v : ℕ} {r₂ : Walk} {ws₂ bs₂ : List ℕ} → r ≡ Ok (v, d)
       → Ran (source s l) (a_rule_list (λ f. arity_at s l listed f)) d ws₁ bs₁ how_many_rules r₂ ws₂ bs₂
       → Ran (source s l) a_book (start listed) ws bs rules_of_book r₂ ws₂ bs₂
   unfolding a_book
@@ -32,7 +32,7 @@ module _ (s l : List ℕ) (listed : Bool) {ws bs ws₁ bs₁ : List ℕ} {r : Wa
       (λ ars q. seq_last _ (λ rs. refl)
       (subst (λ ar. Ran (source s l) (a_rule_list ar) d ws₁ bs₁ how_many_rules r₂ ws₂ bs₂) (arity_known s l listed ws bs ars (state d ws₁ bs₁) q) second))
 
-  pub book_counted : {v : ℕ} {cs after : List ℕ} → r ≡ On v d
+  pub book_counted : {v : ℕ} {cs after : List ℕ} → r ≡ Ok (v, d)
       → Counted (source s l) (a_rule_list (λ f. arity_at s l listed f)) (state d ws₁ bs₁) 0 cs after
       → CountedBook (source s l) (state (start listed) ws bs) cs after
   unfolding a_book go_on
@@ -60,7 +60,7 @@ module _ (s l : List ℕ) (listed : Bool) {ws bs ws₁ bs₁ : List ℕ} {r : Wa
           same e = unfold run in cc e
       last ars k b τ (no m υ) g q = let z : ◌≡◌ {A = ℕ} 0 1 = cc in absurd (omega arith)
 
-  pub book_uncounted : {m : ℕ} {cs : List ℕ} → r ≡ No m d → CountedBook (source s l) (state (start listed) ws bs) cs cs
+  pub book_uncounted : {m : ℕ} {cs : List ℕ} → r ≡ Err (m, d) → CountedBook (source s l) (state (start listed) ws bs) cs cs
   unfolding a_book go_on
   book_uncounted {m} e = record {
     all = λ b τ q.

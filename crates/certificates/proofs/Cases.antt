@@ -1,4 +1,5 @@
 -- The cases of the grammar of certificates, as the code meets them.
+use Rattle.std.specs.Prelude.{Ok, Err}
 use Prim.Native.Nat.{ℕ, ◌+◌}
 use mathlib.Core.Path.{◌≡◌, refl}
 use mathlib.Core.List.{List, [], ◌∷◌}
@@ -8,9 +9,7 @@ use borrow.Author.Tests.{eq-eqb, ne_eqb}
 use lib.ListN.{get_or, set}
 use Rattle.bits.specs.Put.{put_field}
 use Rattle.fields.specs.declared.Walker.{Walker}
-use Rattle.fields.specs.declared.Field.{Field}
-use Rattle.fields.specs.declared.Field.TheVariants.{Got, Bad}
-use Rattle.fields.specs.declared.Walk.TheVariants.{On, No}
+use Rattle.fields.specs.Source.{Field}
 use Rattle.fields.specs.Source.{Source, moved}
 use Rattle.fields.specs.Kinds.{one_call}
 use Rattle.fields.specs.Kinds.{FieldKind as kind}
@@ -35,15 +34,15 @@ module _ (ar : ℕ → ℕ) (b : ℕ) where
 -- ---- the rule of a descent; `n` is how many calls the code found
 
 module _ (src : Source) (ms : List ℕ) {c : Walker} {ws bs : List ℕ} {x : Field} (g : x ≡ src 8 c) where
-  pub fall_bad : (m : ℕ) → x ≡ Bad m → Ran src (field kind.rule (one_call ms)) c ws bs (λ v. v) (No m c) ws bs
+  pub fall_bad : (m : ℕ) → x ≡ Err m → Ran src (field kind.rule (one_call ms)) c ws bs (λ v. v) (Err (m, c)) ws bs
   fall_bad m e = field_bad kind.rule (one_call ms) m g e
 
-  module _ (k : ℕ) {n : ℕ} (e : x ≡ Got k) (found : n ≡ get_or ms k 0) where
-    pub fall_not : n ≢ 1 → Ran src (field kind.rule (one_call ms)) c ws bs (λ v. v) (No 4 c) ws bs
+  module _ (k : ℕ) {n : ℕ} (e : x ≡ Ok k) (found : n ≡ get_or ms k 0) where
+    pub fall_not : n ≢ 1 → Ran src (field kind.rule (one_call ms)) c ws bs (λ v. v) (Err (4, c)) ws bs
     fall_not h = field_refused kind.rule (one_call ms) k 4 g e (rw (← found, ne_eqb n 1 h))
 
     pub fall_one : {d : Walker} {ws₁ bs₁ : List ℕ} → n ≡ 1 → d ≡ moved 8 c → ws₁ ≡ set ws c.n k → bs₁ ≡ put_field bs 8 k c.bit
-        → Ran src (field kind.rule (one_call ms)) c ws bs (λ v. v) (On k d) ws₁ bs₁
+        → Ran src (field kind.rule (one_call ms)) c ws bs (λ v. v) (Ok (k, d)) ws₁ bs₁
     fall_one h p q s = field_in kind.rule (one_call ms) k g e (rw (← found, eq-eqb n 1 h)) refl p q s
 
 -- ---- the two kinds of line

@@ -1,4 +1,5 @@
 -- The first fault of a file in bytes is what a run over it stops with; 7 is found behind the run.
+use Rattle.std.specs.Prelude.{Ok, Err}
 use Prim.Native.Nat.{ℕ, ◌+◌, ◌*◌, ◌^◌, ◌≤◌, ◌<◌}
 use mathlib.Core.Path.{◌≡◌, refl, sym, ap, ◌∙◌, subst}
 use mathlib.Core.Logic.{◌≢◌}
@@ -12,7 +13,6 @@ use Rattle.bits.specs.Bits.{bits_at}
 use Rattle.bits.specs.Packed.{width}
 use Rattle.bits.proofs.Fitting.{read_yes, read_past}
 use Rattle.fields.specs.declared.Walker.{Walker}
-use Rattle.fields.specs.declared.Field.TheVariants.{Got, Bad}
 use Rattle.fields.specs.Source.{source, field_at, start}
 use Rattle.fields.specs.Kinds.{FieldKind, bits, Range, InRange, Unnormal, Spent}
 use Rattle.fields.specs.Grammar.{Grammar, ask, Outcome, outcome, trace}
@@ -34,12 +34,12 @@ abbrev pub Counted : {A : Type 0} → List ℕ → Grammar A → Type 0
 Counted {A} s p = (fs : List (ℕ × ℕ)) (q : Grammar A) → Led p fs q → width fs ≤ 8 * length s → width fs + 16 < 2 ^ 32
 
 module _ (s : List ℕ) (k : FieldKind) (d : Walker) (few : d.n < 2 ^ 32) (near : d.bit + 16 < 2 ^ 32) (packed : d.listed ≡ false) where
-  byte_there : d.bit + bits k ≤ 8 * length s → field_at s [] (bits k) d ≡ Got (bits_at s d.bit (bits k))
+  byte_there : d.bit + bits k ≤ 8 * length s → field_at s [] (bits k) d ≡ Ok (bits_at s d.bit (bits k))
   byte_there h =
       field_packed s [] (bits k) d (bits_few k).1 few (omega arith) packed _
       (sym (read_yes s (bits k) d.bit (bits_few k).1 (omega (arith, (bits_few k).1))))
 
-  byte_past : 8 * length s < d.bit + bits k → field_at s [] (bits k) d ≡ Bad 3
+  byte_past : 8 * length s < d.bit + bits k → field_at s [] (bits k) d ≡ Err 3
   byte_past h =
       field_packed s [] (bits k) d (bits_few k).1 few (omega arith) packed _ (sym (read_past s (bits k) d.bit (omega arith)))
 
@@ -54,13 +54,13 @@ module _ {A : Type 0} (s : List ℕ) (p : Grammar A) (counted : Counted s p) whe
       readable v e (dec_le (d.bit + bits k) (8 * length s)) λ l g.
       Fault.unnormal at h l (subst (InRange r) g i) (subst (Unnormal r) g u) q)
     where
-      unreadable : ¬ (Spent r) → field_at s [] (bits k) d ≡ Bad m → Dec (d.bit + bits k ≤ 8 * length s) → Fault s p m d.bit
+      unreadable : ¬ (Spent r) → field_at s [] (bits k) d ≡ Err m → Dec (d.bit + bits k ≤ 8 * length s) → Fault s p m d.bit
       unreadable h e (yes l) =
           let q = byte_there s k d few near packed l in let z : ◌≡◌ {A = ℕ} 0 1 = cc in absurd (omega arith)
       unreadable h e (no l) =
           let q = byte_past s k d few near packed (omega arith) in Fault.past_end at h (omega arith) (cc)
 
-      readable : (v : ℕ) → field_at s [] (bits k) d ≡ Got v → Dec (d.bit + bits k ≤ 8 * length s)
+      readable : (v : ℕ) → field_at s [] (bits k) d ≡ Ok v → Dec (d.bit + bits k ≤ 8 * length s)
           → (d.bit + bits k ≤ 8 * length s → v ≡ bits_at s d.bit (bits k) → Fault s p m d.bit) → Fault s p m d.bit
       readable v e (yes l) f = let q = byte_there s k d few near packed l in f l (cc)
       readable v e (no l) f =
@@ -122,7 +122,7 @@ module _ {A : Type 0} (s : List ℕ) (p : Grammar A) (counted : Counted s p) whe
         b,
         reached_outcome place at
             ∙ stops_bad (source s []) k r next (end place at) h m
-            (byte_past s k (end place at) (few place at) (near place at) refl (omega arith) ∙ ap Bad (sym e)),
+            (byte_past s k (end place at) (few place at) (near place at) refl (omega arith) ∙ ap Err (sym e)),
       )
   fault_stops m place (Fault.outside {k = k} {r = r} {next = next} at h l i e) n =
       let b = reached_bit place at in (

@@ -1,4 +1,5 @@
 -- Which fields a source gives one after the other: for bytes those that stand in them, for a list those whose values stand in it.
+use Rattle.std.specs.Prelude.{Ok, Err, Some, None}
 use mathlib.Core.Path.{◌≡◌, refl, sym, ap, ap₂, ◌∙◌}
 use mathlib.Core.List.{List, [], ◌∷◌}
 use mathlib.Core.Bool.{Bool, true, false, cond}
@@ -12,28 +13,26 @@ use lib.Dec.{ltb}
 use Rattle.bits.specs.Bits.{bits_at, room_of, read_field}
 use Rattle.bits.specs.Packed.{width, Reads, Sized}
 use Rattle.bits.specs.Written.{Narrow}
-use Rattle.bits.specs.declared.Taken.{Taken as Bits}
-use Rattle.bits.specs.declared.Taken.TheVariants.{Got as gotBits, Past as no_bits}
+use Rattle.bits.specs.Bits.{Taken as Bits}
 use Rattle.bits.proofs.Bytes.{bits_lt}
 use Rattle.bits.proofs.Fitting.{read_yes, read_got}
 use Rattle.fields.specs.declared.Walker.{Walker}
-use Rattle.fields.specs.declared.Field.{Field}
-use Rattle.fields.specs.declared.Field.TheVariants.{Got, Bad}
+use Rattle.fields.specs.Source.{Field}
 use Rattle.fields.specs.Source.{Source, moved, source, field_at, listed_field, of_bits}
 use Rattle.fields.proofs.Sources.{Near, got_near, field_listed, field_packed, listed_got}
 use Rattle.fields.proofs.Sinks.{values}
 
 -- ---- a field that a source gives
 
-cond_got : (b : Bool) (x : Field) (m v : ℕ) → cond b x (Bad m) ≡ Got v → (b ≡ true) × (x ≡ Got v)
+cond_got : (b : Bool) (x : Field) (m v : ℕ) → cond b x (Err m) ≡ Ok v → (b ≡ true) × (x ≡ Ok v)
 cond_got true x m v h = (refl, h)
 cond_got false x m v h = let z : ◌≡◌ {A = ℕ} 0 1 = cc in absurd (omega arith)
 
-got_bits : (s : List ℕ) (w at v : ℕ) (x : Bits) → read_field s w at ≡ x → of_bits x ≡ Got v → (bits_at s at w ≡ v) × (at + w ≤ room_of s)
-got_bits s w at v (gotBits u d) e h = let k = read_got s w at u d e in (cc, k.3)
-got_bits s w at v no_bits e h = let z : ◌≡◌ {A = ℕ} 0 1 = cc in absurd (omega arith)
+got_bits : (s : List ℕ) (w at v : ℕ) (x : Bits) → read_field s w at ≡ x → of_bits x ≡ Ok v → (bits_at s at w ≡ v) × (at + w ≤ room_of s)
+got_bits s w at v (Some (u, d)) e h = let k = read_got s w at u d e in (cc, k.3)
+got_bits s w at v None e h = let z : ◌≡◌ {A = ℕ} 0 1 = cc in absurd (omega arith)
 
-got_number : (l : List ℕ) (w n v : ℕ) → listed_field l w n ≡ Got v → (n < length l) × (get_or l n 0 ≡ v) × (v < 2 ^ w)
+got_number : (l : List ℕ) (w n v : ℕ) → listed_field l w n ≡ Ok v → (n < length l) × (get_or l n 0 ≡ v) × (v < 2 ^ w)
 unfolding listed_field
 got_number l w n v e =
     let h = cond_got (ltb n (length l)) _ 3 v e in
@@ -48,31 +47,31 @@ module _ (s l : List ℕ) (w : ℕ) (c : Walker) where
   from_list : Near w c → c.listed ≡ true → field_at s l w c ≡ listed_field l w c.n
   from_list h = field_listed s l w c h.narrow h.few h.close
 
-  got_packed : (v : ℕ) → c.listed ≡ false → field_at s l w c ≡ Got v → (bits_at s c.bit w ≡ v) × (c.bit + w ≤ room_of s)
+  got_packed : (v : ℕ) → c.listed ≡ false → field_at s l w c ≡ Ok v → (bits_at s c.bit w ≡ v) × (c.bit + w ≤ room_of s)
   got_packed v b e = got_bits s w c.bit v _ refl (sym (from_bytes (got_near s l w c v e) b) ∙ e)
 
-  got_listed : (v : ℕ) → c.listed ≡ true → field_at s l w c ≡ Got v → (c.n < length l) × (get_or l c.n 0 ≡ v) × (v < 2 ^ w)
+  got_listed : (v : ℕ) → c.listed ≡ true → field_at s l w c ≡ Ok v → (c.n < length l) × (get_or l c.n 0 ≡ v) × (v < 2 ^ w)
   got_listed v b e = got_number l w c.n v (sym (from_list (got_near s l w c v e) b) ∙ e)
 
-  pub got_small : (v : ℕ) → field_at s l w c ≡ Got v → v < 2 ^ w
+  pub got_small : (v : ℕ) → field_at s l w c ≡ Ok v → v < 2 ^ w
   got_small v e = go c.listed refl
     where
       go : (b : Bool) → c.listed ≡ b → v < 2 ^ w
       go true h = (got_listed v h e).2
       go false h = rw (got_packed v h e).0 at (bits_lt s c.bit w)
 
-  packed_gives : (v : ℕ) → Near w c → c.listed ≡ false → bits_at s c.bit w ≡ v → c.bit + w ≤ room_of s → field_at s l w c ≡ Got v
-  packed_gives v h b e r = from_bytes h b ∙ ap of_bits (read_yes s w c.bit h.narrow r) ∙ ap Got e
+  packed_gives : (v : ℕ) → Near w c → c.listed ≡ false → bits_at s c.bit w ≡ v → c.bit + w ≤ room_of s → field_at s l w c ≡ Ok v
+  packed_gives v h b e r = from_bytes h b ∙ ap of_bits (read_yes s w c.bit h.narrow r) ∙ ap Ok e
 
-  list_gives : (v : ℕ) → Near w c → c.listed ≡ true → c.n < length l → get_or l c.n 0 ≡ v → v < 2 ^ w → field_at s l w c ≡ Got v
-  list_gives v h b i e k = from_list h b ∙ listed_got l w c.n i (rw e k) ∙ ap Got e
+  list_gives : (v : ℕ) → Near w c → c.listed ≡ true → c.n < length l → get_or l c.n 0 ≡ v → v < 2 ^ w → field_at s l w c ≡ Ok v
+  list_gives v h b i e k = from_list h b ∙ listed_got l w c.n i (rw e k) ∙ ap Ok e
 
 -- ---- fields one after the other
 
 -- the source gives the fields from the walker on
 unfoldable pub Gives : Source → Walker → List (ℕ × ℕ) → Type 0
 Gives src c [] = Unit {0}
-Gives src c (f ∷ fs) = (src f.0 c ≡ Got f.1) × Gives src (moved f.0 c) fs
+Gives src c (f ∷ fs) = (src f.0 c ≡ Ok f.1) × Gives src (moved f.0 c) fs
 
 -- each of the fields from the walker on is in reach
 unfoldable pub ReachedBy : Walker → List (ℕ × ℕ) → Type 0

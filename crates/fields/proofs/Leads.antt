@@ -1,4 +1,5 @@
 -- Where a grammar is led by fields that stand in a source, and why it stops there.
+use Rattle.std.specs.Prelude.{Ok, Err}
 use Prim.Native.Nat.{ℕ, ◌^◌, ◌≤◌, ◌<◌}
 use mathlib.Core.Path.{◌≡◌, sym, ap, ◌∙◌, subst, subst₂}
 use mathlib.Core.List.{List, [], ◌∷◌}
@@ -8,7 +9,6 @@ use lib.ListN.{length}
 use Rattle.bits.specs.Packed.{width, Sized}
 use Rattle.bits.specs.Written.{Narrow}
 use Rattle.fields.specs.declared.Walker.{Walker}
-use Rattle.fields.specs.declared.Field.TheVariants.{Got, Bad}
 use Rattle.fields.specs.Source.{Source, moved}
 use Rattle.fields.specs.Kinds.{FieldKind, bits, Range, test}
 use Rattle.fields.specs.Grammar.{Grammar, done, ask, look, outcome, trace}
@@ -62,8 +62,8 @@ spells_led (ask k r next) a (f ∷ fs) h =
 
 -- why a grammar stops at a field
 pub data Why (src : Source) (k : FieldKind) (r : Range) (c : Walker) (m : ℕ) : Type 0 where
-  unread : look src k r c ≡ Bad m → Why src k r c m
-  untaken : (v : ℕ) → look src k r c ≡ Got v → test r v ≡ some m → Why src k r c m
+  unread : look src k r c ≡ Err m → Why src k r c m
+  untaken : (v : ℕ) → look src k r c ≡ Ok v → test r v ≡ some m → Why src k r c m
 
 pub record StoppedAt {A : Type 0} (src : Source) (p : Grammar A) (c : Walker) (m : ℕ) (fs : List (ℕ × ℕ)) : Type 0 where
   pub kind : FieldKind
@@ -110,8 +110,8 @@ module _ {A : Type 0} {src : Source} where
 -- ---- and back: fields that lead, and stand in the source, are passed
 
 module _ {A : Type 0} (src : Source) where
-  module _ (k : FieldKind) (r : Range) (next : ℕ → Grammar A) (v : ℕ) (c : Walker) (h : Keeps k r v) (g : src (bits k) c ≡ Got v) where
-    looks : look src k r c ≡ Got v
+  module _ (k : FieldKind) (r : Range) (next : ℕ → Grammar A) (v : ℕ) (c : Walker) (h : Keeps k r v) (g : src (bits k) c ≡ Ok v) where
+    looks : look src k r c ≡ Ok v
     looks = test_look src k r c v (keeps_passes k r v h) ∙ g
 
     outcome_past : outcome src (ask k r next) c ≡ outcome src (next v) (moved (bits k) c)

@@ -1,4 +1,5 @@
 -- The first fault of a list of fields is what a run over it stops with; 7 is found behind the run.
+use Rattle.std.specs.Prelude.{Ok, Err}
 use Prim.Native.Nat.{ℕ, ◌+◌, ◌^◌, ◌≤◌, ◌<◌}
 use mathlib.Core.Path.{◌≡◌, refl, sym, ap, ◌∙◌, subst}
 use mathlib.Core.Logic.{◌≢◌}
@@ -10,7 +11,6 @@ use native.Mathlib.Decide.{dec_le}
 use lib.ListN.{length, get_or, take}
 use Rattle.bits.specs.Packed.{width}
 use Rattle.fields.specs.declared.Walker.{Walker}
-use Rattle.fields.specs.declared.Field.TheVariants.{Got, Bad}
 use Rattle.fields.specs.Source.{source, field_at, start}
 use Rattle.fields.specs.Kinds.{FieldKind, bits, Range, InRange, Unnormal, Spent}
 use Rattle.fields.specs.Grammar.{Grammar, ask, Outcome, outcome, trace}
@@ -32,13 +32,13 @@ Countable {A} p = (fs : List (ℕ × ℕ)) (q : Grammar A) → Led p fs q → wi
 -- ---- what stands at a place
 
 module _ (l : List ℕ) (k : FieldKind) (d : Walker) (few : d.n < 2 ^ 32) (close : d.bit < 2 ^ 32) (listed : d.listed ≡ true) where
-  number_there : d.n < length l → get_or l d.n 0 < 2 ^ bits k → field_at [] l (bits k) d ≡ Got (get_or l d.n 0)
+  number_there : d.n < length l → get_or l d.n 0 < 2 ^ bits k → field_at [] l (bits k) d ≡ Ok (get_or l d.n 0)
   number_there h i = field_listed [] l (bits k) d (bits_few k).1 few close listed ∙ listed_got l (bits k) d.n h i
 
-  number_wide : d.n < length l → 2 ^ bits k ≤ get_or l d.n 0 → field_at [] l (bits k) d ≡ Bad 4
+  number_wide : d.n < length l → 2 ^ bits k ≤ get_or l d.n 0 → field_at [] l (bits k) d ≡ Err 4
   number_wide h i = field_listed [] l (bits k) d (bits_few k).1 few close listed ∙ listed_wide l (bits k) d.n h i
 
-  number_past : length l ≤ d.n → field_at [] l (bits k) d ≡ Bad 3
+  number_past : length l ≤ d.n → field_at [] l (bits k) d ≡ Err 3
   number_past h = field_listed [] l (bits k) d (bits_few k).1 few close listed ∙ listed_past l (bits k) d.n h
 
 module _ {A : Type 0} (l : List ℕ) (p : Grammar A) (short : Countable p) where
@@ -54,7 +54,7 @@ module _ {A : Type 0} (l : List ℕ) (p : Grammar A) (short : Countable p) where
       readable v e (dec_le (length l) d.n) (dec_le (2 ^ bits k) (get_or l d.n 0)) λ x y g.
       ListFault.unnormal at h x y (subst (InRange r) g i) (subst (Unnormal r) g u) q)
     where
-      unreadable : ¬ (Spent r) → field_at [] l (bits k) d ≡ Bad m → Dec (length l ≤ d.n) → Dec (2 ^ bits k ≤ get_or l d.n 0)
+      unreadable : ¬ (Spent r) → field_at [] l (bits k) d ≡ Err m → Dec (length l ≤ d.n) → Dec (2 ^ bits k ≤ get_or l d.n 0)
           → ListFault l p m d.n
       unreadable h e (yes x) y = let q = number_past l k d few close listed x in ListFault.past_end at h x (cc)
       unreadable h e (no x) (yes y) =
@@ -63,7 +63,7 @@ module _ {A : Type 0} (l : List ℕ) (p : Grammar A) (short : Countable p) where
           let q = number_there l k d few close listed (omega arith) (omega arith) in
           let z : ◌≡◌ {A = ℕ} 0 1 = cc in absurd (omega arith)
 
-      readable : (v : ℕ) → field_at [] l (bits k) d ≡ Got v → Dec (length l ≤ d.n) → Dec (2 ^ bits k ≤ get_or l d.n 0)
+      readable : (v : ℕ) → field_at [] l (bits k) d ≡ Ok v → Dec (length l ≤ d.n) → Dec (2 ^ bits k ≤ get_or l d.n 0)
           → (d.n < length l → get_or l d.n 0 < 2 ^ bits k → v ≡ get_or l d.n 0 → ListFault l p m d.n) → ListFault l p m d.n
       readable v e (yes x) y f =
           let q = number_past l k d few close listed x in let z : ◌≡◌ {A = ℕ} 0 1 = cc in absurd (omega arith)
@@ -127,7 +127,7 @@ module _ {A : Type 0} (l : List ℕ) (p : Grammar A) (short : Countable p) where
         b,
         listed_outcome place at
             ∙ stops_bad (source [] l) k r next (end place at) h m
-            (number_past l k (end place at) (few place at) (close place at) refl (omega arith) ∙ ap Bad (sym e)),
+            (number_past l k (end place at) (few place at) (close place at) refl (omega arith) ∙ ap Err (sym e)),
       )
   list_fault_stops m place (ListFault.too_wide {k = k} {r = r} {next = next} at h x y e) n =
       let b = listed_number place at in (
@@ -136,7 +136,7 @@ module _ {A : Type 0} (l : List ℕ) (p : Grammar A) (short : Countable p) where
         listed_outcome place at
             ∙ stops_bad (source [] l) k r next (end place at) h m
             (number_wide l k (end place at) (few place at) (close place at) refl (omega arith) (subst (λ z. 2 ^ bits k ≤ get_or l z 0) (sym b) y)
-            ∙ ap Bad (sym e)),
+            ∙ ap Err (sym e)),
       )
   list_fault_stops m place (ListFault.outside {k = k} {r = r} {next = next} at h x y i e) n =
       let b = listed_number place at in (

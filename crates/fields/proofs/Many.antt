@@ -1,4 +1,5 @@
 -- Grammars of n things, one after the other, as a function that calls itself meets them.
+use Rattle.std.specs.Prelude.{Ok}
 use Prim.Native.Nat.{ℕ, zero, suc, ◌-◌}
 use mathlib.Core.Path.{◌≡◌, refl, ◌∙◌, ap}
 use mathlib.Core.List.{List, [], ◌∷◌}
@@ -6,8 +7,7 @@ use mathlib.Core.Logic.{◌≢◌}
 use native.Mathlib.Omega.{arith}
 use lib.ListN.{length}
 use Rattle.fields.specs.declared.Walker.{Walker}
-use Rattle.fields.specs.declared.Walk.{Walk}
-use Rattle.fields.specs.declared.Walk.TheVariants.{On}
+use Rattle.fields.specs.Source.{Walk}
 use Rattle.fields.specs.Source.{Source}
 use Rattle.fields.specs.Grammar.{Grammar, done, bind}
 use Rattle.fields.specs.Run.{Ran}
@@ -41,7 +41,7 @@ module _ {A B : Type 0} {many : ℕ → ℕ → Grammar B} {one : ℕ → Gramma
       at_some (λ k. many k x) (λ k. bind (one x) λ a. bind (many k (next x a)) λ b. done (join a b)) (λ k. R.more k x) n h
 
   module _ {src : Source} {val : B → ℕ} {c : Walker} {ws bs : List ℕ} where
-    pub many_none : n ≡ 0 → Ran src (many n x) c ws bs val (On (val (end x)) c) ws bs
+    pub many_none : n ≡ 0 → Ran src (many n x) c ws bs val (Ok (val (end x), c)) ws bs
     many_none e = rw (none_left e) (ran_done (end x) c ws bs)
 
     pub many_some : {r : Walk} {ws₁ bs₁ : List ℕ} → n ≢ 0

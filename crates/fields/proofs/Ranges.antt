@@ -1,4 +1,5 @@
 -- The ranges of fields: 4, 5 and 6 are given exactly when 01 says, and what two bounds tell of a range.
+use Rattle.std.specs.Prelude.{Ok, Err}
 use Prim.Native.Nat.{ℕ, ◌^◌, ◌≤◌, ◌<◌}
 use mathlib.Core.Logic.{◌↔◌, ◌≢◌}
 use mathlib.Core.Path.{◌≡◌, refl, sym}
@@ -9,7 +10,6 @@ use borrow.Author.Tests.{lt-ltb, le-ltb, ltb-true, ltb-false, eq-eqb, ne_eqb, eq
 use lib.ListN.{get_or}
 use lib.Dec.{eqb, leb, ltb}
 use Rattle.fields.specs.declared.Walker.{Walker}
-use Rattle.fields.specs.declared.Field.TheVariants.{Got, Bad}
 use Rattle.fields.specs.Source.{Source}
 use Rattle.fields.specs.Kinds.{FieldKind, bits, Range, any, from_to, applied, unary, beside, one_call, node, InRange, Unnormal, Spent, between, test, spent, Bounded}
 use Rattle.fields.specs.Grammar.{look}
@@ -142,13 +142,13 @@ spent_exactly (node least left) = ((λ e. eqb-true left 0 e), (λ h. eq-eqb left
 pub look_open : (src : Source) (k : FieldKind) (r : Range) (c : Walker) → spent r ≡ false → look src k r c ≡ src (bits k) c
 look_open src k r c e = rw e
 
-pub look_spent : (src : Source) (k : FieldKind) (r : Range) (c : Walker) → spent r ≡ true → look src k r c ≡ Bad 6
+pub look_spent : (src : Source) (k : FieldKind) (r : Range) (c : Walker) → spent r ≡ true → look src k r c ≡ Err 6
 look_spent src k r c e = rw e
 
-pub look_got : (src : Source) (k : FieldKind) (r : Range) (c : Walker) {v : ℕ} → look src k r c ≡ Got v → src (bits k) c ≡ Got v
+pub look_got : (src : Source) (k : FieldKind) (r : Range) (c : Walker) {v : ℕ} → look src k r c ≡ Ok v → src (bits k) c ≡ Ok v
 look_got src k r c {v} = go (spent r)
   where
-    go : (b : Bool) → cond b (Bad 6) (src (bits k) c) ≡ Got v → src (bits k) c ≡ Got v
+    go : (b : Bool) → cond b (Err 6) (src (bits k) c) ≡ Ok v → src (bits k) c ≡ Ok v
     go true e = let z : ◌≡◌ {A = ℕ} 0 1 = cc in absurd (omega arith)
     go false e = e
 

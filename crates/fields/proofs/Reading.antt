@@ -1,4 +1,5 @@
 -- What a grammar finds is what spells a tree and stands in the source: the trace of a good run does, and fields that do are found.
+use Rattle.std.specs.Prelude.{Ok}
 use mathlib.Core.Path.{◌≡◌, refl, sym, ap, ◌∙◌, subst, subst₂}
 use mathlib.Core.List.{List, [], ◌∷◌}
 use mathlib.Core.Bool.{true, false}
@@ -8,7 +9,6 @@ use Rattle.bits.specs.Bits.{room_of}
 use Rattle.bits.specs.Packed.{width, Reads, Sized}
 use Rattle.bits.specs.Written.{Narrow}
 use Rattle.fields.specs.declared.Walker.{Walker}
-use Rattle.fields.specs.declared.Field.TheVariants.{Got}
 use Rattle.fields.specs.Source.{Source, moved, source}
 use Rattle.fields.specs.Kinds.{bits}
 use Rattle.fields.specs.Grammar.{Grammar, done, ask, look, Outcome, outcome, trace}
@@ -46,7 +46,7 @@ spells_way src (done x) a c fs h g =
     (subst (λ d. Way src (done x) c (ok x d) []) (after_none c) over)
 spells_way src (ask k r next) a c [] h g = absurd h
 spells_way src (ask k r next) a c (f ∷ fs) h g =
-    let e : look src k r c ≡ Got f.1 = test_look src k r c f.1 h.2 ∙ ap (λ (w : ℕ). src w c) (sym h.0) ∙ g.0 in
+    let e : look src k r c ≡ Ok f.1 = test_look src k r c f.1 h.2 ∙ ap (λ (w : ℕ). src w c) (sym h.0) ∙ g.0 in
     subst₂ (λ l d. Way src (ask k r next) c (ok a d) l) (λ i. (sym h.0 i, f.1) ∷ fs) (after_pass (bits k) f.1 c fs ∙ λ i. after c ((sym h.0 i, f.1) ∷ fs))
     (pass e h.2
     (spells_way src (next f.1) a (moved (bits k) c) fs h.3 (subst (λ (w : ℕ). Gives src (moved w c) fs) h.0 g.1)))

@@ -1,4 +1,5 @@
 -- A run over bytes or a list is refused with 3, 4, 5 or 6 only.
+use Rattle.std.specs.Prelude.{Ok, Err, Some, None}
 use Prim.Native.Nat.{ℕ, ◌≤◌}
 use mathlib.Core.Path.{◌≡◌}
 use mathlib.Core.List.{List}
@@ -7,12 +8,10 @@ use mathlib.Core.Option.{Option, some}
 use native.Mathlib.Omega.{arith}
 use lib.ListN.{length, get_or}
 use lib.Dec.{ltb}
-use Rattle.bits.specs.declared.Taken.{Taken as Bits}
-use Rattle.bits.specs.declared.Taken.TheVariants.{Got as gotBits, Past as no_bits}
+use Rattle.bits.specs.Bits.{Taken as Bits}
 use Rattle.bits.specs.Bits.{read_field}
 use Rattle.fields.specs.declared.Walker.{Walker}
-use Rattle.fields.specs.declared.Field.{Field}
-use Rattle.fields.specs.declared.Field.TheVariants.{Got, Bad}
+use Rattle.fields.specs.Source.{Field}
 use Rattle.fields.specs.Source.{source, field_at, in_reach, listed_field, packed_field, of_bits}
 use Rattle.fields.specs.Kinds.{bits, Range, test, spent}
 use Rattle.fields.specs.Grammar.{Grammar, outcome}
@@ -28,12 +27,12 @@ Few m = (3 ≤ m) × (m ≤ 6)
 
 -- the refusals of a field are few
 abbrev FewBad : Field → Type 0
-FewBad x = (m : ℕ) → x ≡ Bad m → Few m
+FewBad x = (m : ℕ) → x ≡ Err m → Few m
 
-few_bad : (n : ℕ) → Few n → FewBad (Bad n)
+few_bad : (n : ℕ) → Few n → FewBad (Err n)
 few_bad n h m e = let q : n ≡ m = cc in (omega arith, omega arith)
 
-few_got : (v : ℕ) → FewBad (Got v)
+few_got : (v : ℕ) → FewBad (Ok v)
 few_got v m e = let z : ◌≡◌ {A = ℕ} 0 1 = cc in absurd (omega arith)
 
 few_cond : (b : Bool) (x y : Field) → FewBad x → FewBad y → FewBad (cond b x y)
@@ -41,8 +40,8 @@ few_cond true x y h k = h
 few_cond false x y h k = k
 
 few_packed : (x : Bits) → FewBad (of_bits x)
-few_packed (gotBits v d) = few_got v
-few_packed no_bits = few_bad 3 (omega arith, omega arith)
+few_packed (Some (v, d)) = few_got v
+few_packed None = few_bad 3 (omega arith, omega arith)
 
 few_at : (s l : List ℕ) (w : ℕ) (c : Walker) → FewBad (field_at s l w c)
 unfolding field_at listed_field packed_field
@@ -66,7 +65,7 @@ few_test r v m = go (test r v) (met r v)
 module _ {A : Type 0} (s l : List ℕ) where
   way_few : {p : Grammar A} {c d : Walker} {m : ℕ} {fs : List (ℕ × ℕ)} → Way (source s l) p c (no m d) fs → Few m
   way_few (bad {k = k} {r = r} {c = c} {m = m} e) =
-      few_cond (spent r) (Bad 6) (field_at s l (bits k) c) (few_bad 6 (omega arith, omega arith)) (few_at s l (bits k) c) m e
+      few_cond (spent r) (Err 6) (field_at s l (bits k) c) (few_bad 6 (omega arith, omega arith)) (few_at s l (bits k) c) m e
   way_few (refused {r = r} {v = v} {m = m} e t) = few_test r v m t
   way_few (pass e t h) = way_few h
 

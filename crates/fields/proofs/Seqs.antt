@@ -1,4 +1,5 @@
 -- One walk after the other: what the code's two calls come to for `bind`.
+use Rattle.std.specs.Prelude.{Ok, Err}
 use mathlib.Core.Path.{◌≡◌, refl, sym, ap, ◌∙◌, subst}
 use mathlib.Core.List.{List}
 use mathlib.Core.Bool.{true}
@@ -6,10 +7,8 @@ use mathlib.Core.Option.{Option, none, some}
 use Prim.Native.Nat.{ℕ}
 use native.Mathlib.Omega.{arith}
 use Rattle.fields.specs.declared.Walker.{Walker}
-use Rattle.fields.specs.declared.Field.{Field}
-use Rattle.fields.specs.declared.Field.TheVariants.{Got, Bad}
-use Rattle.fields.specs.declared.Walk.{Walk}
-use Rattle.fields.specs.declared.Walk.TheVariants.{On, No}
+use Rattle.fields.specs.Source.{Field}
+use Rattle.fields.specs.Source.{Walk}
 use Rattle.fields.specs.Source.{Source}
 use Rattle.fields.specs.Kinds.{FieldKind, bits, Range, test, spent}
 use Rattle.fields.specs.Grammar.{Grammar, done, ask, bind, look, on_field, tested}
@@ -29,8 +28,8 @@ module _ {A B : Type 0} (src : Source) (f : A → Grammar B) where
       → on_field x (λ v. tested (test r v) (run src (bind (next v) f) (passed (bits k) v σ)) (λ m. no m σ)) (λ m. no m σ)
       ≡ go_on (on_field x (λ v. tested (test r v) (run src (next v) (passed (bits k) v σ)) (λ m. no m σ)) (λ m. no m σ))
   unfolding go_on
-  ask_bind k r next σ ih (Bad m) = refl
-  ask_bind k r next σ ih (Got v) = under (test r v)
+  ask_bind k r next σ ih (Err m) = refl
+  ask_bind k r next σ ih (Ok v) = under (test r v)
     where
       under : (o : Option ℕ)
           → tested o (run src (bind (next v) f) (passed (bits k) v σ)) (λ m. no m σ)
@@ -46,19 +45,19 @@ module _ {A B : Type 0} (src : Source) (f : A → Grammar B) where
 -- ---- what a walk shows of a result
 
 module _ {A : Type 0} (val : A → ℕ) (d : Walker) (ws bs : List ℕ) where
-  shown_on : (x : Result A) (v : ℕ) → record { walk = On v d; words = ws; bytes = bs } ≡ shown val x
+  shown_on : (x : Result A) (v : ℕ) → record { walk = Ok (v, d); words = ws; bytes = bs } ≡ shown val x
       → (a : A) × (val a ≡ v) × (x ≡ ok a (state d ws bs))
   shown_on (ok a σ) v p =
       let q = ap (λ (s : Shown). s.walk) p in
       (a, cc q, λ i. ok a (record { cursor = (cursor q) (i); words = (ap (λ (s : Shown). s.words) (sym p)) i; bytes = (ap (λ (s : Shown). s.bytes) (sym p)) i }))
     where
-      cursor : On v d ≡ On (val a) σ.cursor → σ.cursor ≡ d
+      cursor : Ok (v, d) ≡ Ok (val a, σ.cursor) → σ.cursor ≡ d
       cursor q = cc
   shown_on (no m σ) v p =
       let q = ap (λ (s : Shown). s.walk) p in
       let z : ◌≡◌ {A = ℕ} 0 1 = cc q in absurd (omega arith)
 
-  shown_no : (x : Result A) (m : ℕ) → record { walk = No m d; words = ws; bytes = bs } ≡ shown val x → x ≡ no m (state d ws bs)
+  shown_no : (x : Result A) (m : ℕ) → record { walk = Err (m, d); words = ws; bytes = bs } ≡ shown val x → x ≡ no m (state d ws bs)
   shown_no (ok a σ) m p =
       let q = ap (λ (s : Shown). s.walk) p in
       let z : ◌≡◌ {A = ℕ} 0 1 = cc q in absurd (omega arith)
@@ -66,30 +65,30 @@ module _ {A : Type 0} (val : A → ℕ) (d : Walker) (ws bs : List ℕ) where
       let q = ap (λ (s : Shown). s.walk) p in
       λ i. no (number q i) (record { cursor = (cursor q) (i); words = (ap (λ (s : Shown). s.words) (sym p)) i; bytes = (ap (λ (s : Shown). s.bytes) (sym p)) i })
     where
-      number : No m d ≡ No k σ.cursor → k ≡ m
+      number : Err (m, d) ≡ Err (k, σ.cursor) → k ≡ m
       number q = cc
 
-      cursor : No m d ≡ No k σ.cursor → σ.cursor ≡ d
+      cursor : Err (m, d) ≡ Err (k, σ.cursor) → σ.cursor ≡ d
       cursor q = cc
 
 -- ---- two walks
 
 module _ {A : Type 0} {src : Source} {p : Grammar A} {c : Walker} {ws bs : List ℕ} {val : A → ℕ} {r : Walk} {ws₁ bs₁ : List ℕ} (first : Ran src p c ws bs val r ws₁ bs₁) where
   -- what was found, where the first walk went on
-  pub found : {v : ℕ} {d : Walker} → r ≡ On v d
+  pub found : {v : ℕ} {d : Walker} → r ≡ Ok (v, d)
       → (a : A) × (val a ≡ v) × (run src p (state c ws bs) ≡ ok a (state d ws₁ bs₁))
   found {v} {d} e =
       shown_on val d ws₁ bs₁ (run src p (state c ws bs)) v
       (subst (λ x. record { walk = x; words = ws₁; bytes = bs₁ } ≡ shown val (run src p (state c ws bs))) e first.told)
 
-  pub refused : {m : ℕ} {d : Walker} → r ≡ No m d → run src p (state c ws bs) ≡ no m (state d ws₁ bs₁)
+  pub refused : {m : ℕ} {d : Walker} → r ≡ Err (m, d) → run src p (state c ws bs) ≡ no m (state d ws₁ bs₁)
   refused {m} {d} e =
       shown_no val d ws₁ bs₁ (run src p (state c ws bs)) m
       (subst (λ x. record { walk = x; words = ws₁; bytes = bs₁ } ≡ shown val (run src p (state c ws bs))) e first.told)
 
   -- it was refused: so is the whole
-  pub seq_no : {B : Type 0} (f : A → Grammar B) {val₂ : B → ℕ} {m : ℕ} {d : Walker} → r ≡ No m d
-      → Ran src (bind p f) c ws bs val₂ (No m d) ws₁ bs₁
+  pub seq_no : {B : Type 0} (f : A → Grammar B) {val₂ : B → ℕ} {m : ℕ} {d : Walker} → r ≡ Err (m, d)
+      → Ran src (bind p f) c ws bs val₂ (Err (m, d)) ws₁ bs₁
   unfolding go_on
   seq_no f {val₂} {m} {d} e = record {
     told = ap (shown val₂) (sym (run_bind src f p (state c ws bs) ∙ ap (go_on src f) (refused e)));
@@ -97,7 +96,7 @@ module _ {A : Type 0} {src : Source} {p : Grammar A} {c : Walker} {ws bs : List 
 
   -- it went on: the whole is the second walk over what was found
   pub seq_found : {B : Type 0} (f : A → Grammar B) {val₂ : B → ℕ} {v : ℕ} {d : Walker} {r₂ : Walk} {ws₂ bs₂ : List ℕ}
-      → r ≡ On v d
+      → r ≡ Ok (v, d)
       → ((a : A) → run src p (state c ws bs) ≡ ok a (state d ws₁ bs₁) → Ran src (f a) d ws₁ bs₁ val₂ r₂ ws₂ bs₂)
       → Ran src (bind p f) c ws bs val₂ r₂ ws₂ bs₂
   unfolding go_on
@@ -110,7 +109,7 @@ module _ {A : Type 0} {src : Source} {p : Grammar A} {c : Walker} {ws bs : List 
       }
 
   -- of what was found only a number need be known
-  pub seq_on : {B : Type 0} (f : A → Grammar B) {val₂ : B → ℕ} {v : ℕ} {d : Walker} {r₂ : Walk} {ws₂ bs₂ : List ℕ} → r ≡ On v d
+  pub seq_on : {B : Type 0} (f : A → Grammar B) {val₂ : B → ℕ} {v : ℕ} {d : Walker} {r₂ : Walk} {ws₂ bs₂ : List ℕ} → r ≡ Ok (v, d)
       → ((a : A) → val a ≡ v → Ran src (f a) d ws₁ bs₁ val₂ r₂ ws₂ bs₂) → Ran src (bind p f) c ws bs val₂ r₂ ws₂ bs₂
   unfolding go_on
   seq_on f {val₂} e second =
@@ -123,7 +122,7 @@ module _ {A : Type 0} {src : Source} {p : Grammar A} {c : Walker} {ws bs : List 
 -- a number that was found is known
 pub seq_at : {B : Type 0} {src : Source} {p : Grammar ℕ} (f : ℕ → Grammar B) {c d : Walker} {ws bs ws₁ bs₁ ws₂ bs₂ : List ℕ}
     {val₂ : B → ℕ} {r r₂ : Walk} {v : ℕ}
-    → Ran src p c ws bs (λ v. v) r ws₁ bs₁ → r ≡ On v d → Ran src (f v) d ws₁ bs₁ val₂ r₂ ws₂ bs₂
+    → Ran src p c ws bs (λ v. v) r ws₁ bs₁ → r ≡ Ok (v, d) → Ran src (f v) d ws₁ bs₁ val₂ r₂ ws₂ bs₂
     → Ran src (bind p f) c ws bs val₂ r₂ ws₂ bs₂
 seq_at {src} f {d} {ws₁} {bs₁} {ws₂} {bs₂} {val₂} {r₂} first e second =
     seq_on first f e (λ a q. subst (λ x. Ran src (f x) d ws₁ bs₁ val₂ r₂ ws₂ bs₂) (sym q) second)
@@ -134,7 +133,7 @@ shown_last : {A B : Type 0} (src : Source) (h : A → B) (val : A → ℕ) (val�
     → (x : Result A) → shown val₂ (go_on src (λ a. done (h a)) x) ≡ shown val x
 unfolding go_on run
 shown_last src h val val₂ same (ok a σ) =
-    ap (λ (v : ℕ). record { walk = On v σ.cursor; words = σ.words; bytes = σ.bytes }) (same a)
+    ap (λ (v : ℕ). record { walk = Ok (v, σ.cursor); words = σ.words; bytes = σ.bytes }) (same a)
 shown_last src h val val₂ same (no m σ) = refl
 
 -- a tree is put together, with the same number
@@ -151,13 +150,13 @@ seq_last {src} {p} h {c} {ws} {bs} {val} {val₂} same first = record {
 
 -- nothing is left to read
 pub ran_done : {A : Type 0} {src : Source} {val : A → ℕ} (a : A) (c : Walker) (ws bs : List ℕ)
-    → Ran src (done a) c ws bs val (On (val a) c) ws bs
+    → Ran src (done a) c ws bs val (Ok (val a, c)) ws bs
 unfolding run
 ran_done a c ws bs = record { told = refl }
 
 -- no node is allowed any more
 pub ran_spent : {A : Type 0} {src : Source} {val : A → ℕ} (k : FieldKind) (r : Range) (next : ℕ → Grammar A) (c : Walker) (ws bs : List ℕ)
-    → spent r ≡ true → Ran src (ask k r next) c ws bs val (No 6 c) ws bs
+    → spent r ≡ true → Ran src (ask k r next) c ws bs val (Err (6, c)) ws bs
 unfolding run
 ran_spent k r next c ws bs e = record { told = rw e }
 
@@ -165,10 +164,10 @@ ran_spent k r next c ws bs e = record { told = rw e }
 
 module _ {A : Type 0} {src : Source} {p : Grammar A} {c d : Walker} {ws bs ws₁ bs₁ : List ℕ} {val : A → ℕ} where
   pub ran_ok : {a : A} {v : ℕ} → run src p (state c ws bs) ≡ ok a (state d ws₁ bs₁) → v ≡ val a
-      → Ran src p c ws bs val (On v d) ws₁ bs₁
+      → Ran src p c ws bs val (Ok (v, d)) ws₁ bs₁
   ran_ok e q = record {
-    told = ap (λ (n : ℕ). record { walk = On n d; words = ws₁; bytes = bs₁ }) q ∙ ap (shown val) (sym e);
+    told = ap (λ (n : ℕ). record { walk = Ok (n, d); words = ws₁; bytes = bs₁ }) q ∙ ap (shown val) (sym e);
   }
 
-  pub ran_no : {m : ℕ} → run src p (state c ws bs) ≡ no m (state d ws₁ bs₁) → Ran src p c ws bs val (No m d) ws₁ bs₁
+  pub ran_no : {m : ℕ} → run src p (state c ws bs) ≡ no m (state d ws₁ bs₁) → Ran src p c ws bs val (Err (m, d)) ws₁ bs₁
   ran_no e = record { told = ap (shown val) (sym e) }

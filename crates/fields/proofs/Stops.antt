@@ -1,11 +1,11 @@
 -- Why a grammar stops at a field, in 01's words: no node is allowed there, nothing can be read there, or what stands there is out of range or not normal.
+use Rattle.std.specs.Prelude.{Ok, Err}
 use Prim.Native.Nat.{ℕ}
 use mathlib.Core.Path.{◌≡◌, refl, sym, ◌∙◌}
 use mathlib.Core.Bool.{Bool, true, false}
 use mathlib.Core.Option.{Option, some}
 use native.Mathlib.Omega.{arith}
 use Rattle.fields.specs.declared.Walker.{Walker}
-use Rattle.fields.specs.declared.Field.TheVariants.{Got, Bad}
 use Rattle.fields.specs.Source.{Source}
 use Rattle.fields.specs.Kinds.{FieldKind, bits, Range, InRange, Unnormal, Spent, test, spent}
 use Rattle.fields.specs.Grammar.{Grammar, ask, Outcome, outcome}
@@ -28,12 +28,12 @@ allowed r h = go (spent r) refl
     go false e = refl
 
 pub why : {R : Type 0} (src : Source) (k : FieldKind) (r : Range) (d : Walker) (m : ℕ) → Why src k r d m → (Spent r → m ≡ 6 → R)
-    → (¬ (Spent r) → src (bits k) d ≡ Bad m → R)
-    → (¬ (Spent r) → (v : ℕ) → src (bits k) d ≡ Got v → ¬ (InRange r v) → m ≡ 4 → R)
-    → (¬ (Spent r) → (v : ℕ) → src (bits k) d ≡ Got v → InRange r v → Unnormal r v → m ≡ 5 → R) → R
+    → (¬ (Spent r) → src (bits k) d ≡ Err m → R)
+    → (¬ (Spent r) → (v : ℕ) → src (bits k) d ≡ Ok v → ¬ (InRange r v) → m ≡ 4 → R)
+    → (¬ (Spent r) → (v : ℕ) → src (bits k) d ≡ Ok v → InRange r v → Unnormal r v → m ≡ 5 → R) → R
 why {R} src k r d m w full unreadable wide abnormal = go (spent? r) w
   where
-    untested : ¬ (Spent r) → (v : ℕ) → src (bits k) d ≡ Got v → (o : Option ℕ) → Tested r v o → o ≡ some m → R
+    untested : ¬ (Spent r) → (v : ℕ) → src (bits k) d ≡ Ok v → (o : Option ℕ) → Tested r v o → o ≡ some m → R
     untested h v e o (good s i u) q = let z : ◌≡◌ {A = ℕ} 0 1 = cc in absurd (omega arith)
     untested h v e o (outside s i) q = wide h v e i (cc)
     untested h v e o (unnormal s i u) q = abnormal h v e i u (cc)
@@ -53,10 +53,10 @@ module _ {A : Type 0} (src : Source) (k : FieldKind) (r : Range) (next : ℕ →
   unfolding outcome
   stops_spent h = rw (look_spent src k r d ((spent_exactly r).1 h))
 
-  pub stops_bad : ¬ (Spent r) → (m : ℕ) → src (bits k) d ≡ Bad m → outcome src (ask k r next) d ≡ Outcome.no m d
+  pub stops_bad : ¬ (Spent r) → (m : ℕ) → src (bits k) d ≡ Err m → outcome src (ask k r next) d ≡ Outcome.no m d
   unfolding outcome
   stops_bad h m e = rw (look_open src k r d (allowed r h) ∙ e)
 
-  pub stops_refused : ¬ (Spent r) → (v m : ℕ) → src (bits k) d ≡ Got v → test r v ≡ some m → outcome src (ask k r next) d ≡ Outcome.no m d
+  pub stops_refused : ¬ (Spent r) → (v m : ℕ) → src (bits k) d ≡ Ok v → test r v ≡ some m → outcome src (ask k r next) d ≡ Outcome.no m d
   unfolding outcome
   stops_refused h v m e t = rw (look_open src k r d (allowed r h) ∙ e, t)

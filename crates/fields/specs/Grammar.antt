@@ -1,9 +1,8 @@
 -- A grammar is a value that asks for one field after the other, and what it finds in a source of fields.
-use Rattle.std.specs.Prelude.{ℕ, List, [], ◌∷◌, cond}
+use Rattle.std.specs.Prelude.{ℕ, List, [], ◌∷◌, cond, Ok, Err}
 use Rattle.std.proofs.Math.Option.{Option, none, some}
 use Rattle.fields.specs.declared.Walker.{Walker}
-use Rattle.fields.specs.declared.Field.{Field}
-use Rattle.fields.specs.declared.Field.TheVariants.{Got, Bad}
+use Rattle.fields.specs.Source.{Field}
 use Rattle.fields.specs.Source.{Source, moved}
 use Rattle.fields.specs.Kinds.{FieldKind, bits, Range, test, spent}
 
@@ -23,7 +22,7 @@ field k r = ask k r done
 
 -- what a source has at a walker for a field; 6 is "found before its tag is read"
 abbrev pub look : Source → FieldKind → Range → Walker → Field
-look src k r c = cond (spent r) (Bad 6) (src (bits k) c)
+look src k r c = cond (spent r) (Err 6) (src (bits k) c)
 
 -- what a grammar finds: its tree and the walker past it, or the number of the first refusal and the walker where it is given
 pub data Outcome (A : Type 0) : Type 0 where
@@ -31,8 +30,8 @@ pub data Outcome (A : Type 0) : Type 0 where
   no : ℕ → Walker → Outcome A
 
 abbrev pub on_field : {A : Type 0} → Field → (ℕ → A) → (ℕ → A) → A
-on_field (Got v) got bad = got v
-on_field (Bad m) got bad = bad m
+on_field (Ok v) got bad = got v
+on_field (Err m) got bad = bad m
 
 abbrev pub tested : {A : Type 0} → Option ℕ → A → (ℕ → A) → A
 tested none good bad = good

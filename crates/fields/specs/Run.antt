@@ -1,9 +1,8 @@
 -- A run of a grammar with its two outputs: what the walks in the code are held to.
-use Rattle.std.specs.Prelude.{ℕ, ◌≡◌, List, set}
+use Rattle.std.specs.Prelude.{ℕ, ◌≡◌, List, set, Ok, Err}
 use Rattle.bits.specs.Put.{put_field}
 use Rattle.fields.specs.declared.Walker.{Walker}
-use Rattle.fields.specs.declared.Walk.{Walk}
-use Rattle.fields.specs.declared.Walk.TheVariants.{On, No}
+use Rattle.fields.specs.Source.{Walk}
 use Rattle.fields.specs.Source.{Source, moved}
 use Rattle.fields.specs.Kinds.{FieldKind, Range, bits, test, Bounded}
 use Rattle.fields.specs.Grammar.{Grammar, done, ask, field, look, on_field, tested}
@@ -40,8 +39,8 @@ pub record Shown : Type 0 where
   pub bytes : List ℕ
 
 abbrev pub shown : {A : Type 0} → (A → ℕ) → Result A → Shown
-shown val (ok a σ) = record { walk = On (val a) σ.cursor; words = σ.words; bytes = σ.bytes }
-shown val (no m σ) = record { walk = No m σ.cursor; words = σ.words; bytes = σ.bytes }
+shown val (ok a σ) = record { walk = Ok (val a, σ.cursor); words = σ.words; bytes = σ.bytes }
+shown val (no m σ) = record { walk = Err (m, σ.cursor); words = σ.words; bytes = σ.bytes }
 
 -- a walk that began at c, with the outputs ws and bs, came to r and left ws₁ and bs₁
 pub record Ran {A : Type 0} (src : Source) (p : Grammar A) (c : Walker) (ws bs : List ℕ) (val : A → ℕ) (r : Walk) (ws₁ bs₁ : List ℕ) : Type 0 where

@@ -1,19 +1,16 @@
 -- Where fields come from: bytes, in which they are packed, or a list of numbers, one for each field.
-use Rattle.std.specs.Prelude.{ℕ, ◌+◌, ◌^◌, List, Bool, ◌&&◌, cond, length, get_or, ltb, leb}
+use Rattle.std.specs.Prelude.{ℕ, ◌+◌, ◌^◌, List, Bool, ◌&&◌, cond, length, get_or, ltb, leb, Ok, Err, Some, None}
 use Rattle.bits.specs.Bits.{read_field}
-use Rattle.bits.specs.declared.Taken.{Taken as Bits}
-use Rattle.bits.specs.declared.Taken.TheVariants.{Got as gotBits, Past as no_bits}
+use Rattle.bits.specs.Bits.{Taken as Bits}
 use Rattle.fields.specs.declared.Walker.{Walker}
-use Rattle.fields.specs.declared.Field.{Field}
-use Rattle.fields.specs.declared.Field.TheVariants.{Got, Bad}
 
 -- 01, 4: "too wide when writing"; 3: "a field begins or runs past the end"
 unfoldable pub listed_field : List ℕ → ℕ → ℕ → Field
-listed_field l w n = cond (ltb n (length l)) (cond (ltb (get_or l n 0) (2 ^ w)) (Got (get_or l n 0)) (Bad 4)) (Bad 3)
+listed_field l w n = cond (ltb n (length l)) (cond (ltb (get_or l n 0) (2 ^ w)) (Ok (get_or l n 0)) (Err 4)) (Err 3)
 
 abbrev pub of_bits : Bits → Field
-of_bits (gotBits v d) = Got v
-of_bits no_bits = Bad 3
+of_bits (Some (v, d)) = Ok v
+of_bits None = Err 3
 
 unfoldable pub packed_field : List ℕ → ℕ → ℕ → Field
 packed_field s w at = of_bits (read_field s w at)
@@ -24,7 +21,7 @@ in_reach w c = leb w 16 && ltb c.n (2 ^ 32) && ltb c.bit (2 ^ 32)
 
 -- the field of w bits at a walker
 unfoldable pub field_at : List ℕ → List ℕ → ℕ → Walker → Field
-field_at s l w c = cond (in_reach w c) (cond c.listed (listed_field l w c.n) (packed_field s w c.bit)) (Bad 3)
+field_at s l w c = cond (in_reach w c) (cond c.listed (listed_field l w c.n) (packed_field s w c.bit)) (Err 3)
 
 -- a source hands out the field of a width at a walker
 abbrev pub Source : Type 0

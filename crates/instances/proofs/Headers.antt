@@ -1,4 +1,5 @@
 -- The header that is found where the fields of a node lie; the one that is taken out of a view; and that its numbers are small.
+use Rattle.std.specs.Prelude.{Some, None}
 use Prim.Native.Nat.{ℕ, ◌+◌, ◌/◌, ◌%◌, ◌≤◌, ◌<◌, ◌^◌}
 use mathlib.Core.Path.{◌≡◌, refl, sym, subst, ap, ap₂, ◌∙◌}
 use mathlib.Core.Logic.{⊎_elim}
@@ -10,8 +11,7 @@ use borrow.Author.Tests.{ne_eqb}
 use Rattle.bits.specs.Bits.{bits_at, room_of, read_field}
 use Rattle.bits.specs.View.{Views}
 use Rattle.bits.specs.declared.Cursor.{Cursor}
-use Rattle.bits.specs.declared.Taken.{Taken}
-use Rattle.bits.specs.declared.Taken.TheVariants.{Got, Past}
+use Rattle.bits.specs.Bits.{Taken}
 use Rattle.bits.proofs.Fitting.{read_yes, read_past, read_got}
 use Rattle.bits.proofs.Numbers.{lt_or_ge}
 use Rattle.bits.proofs.Bytes.{bits_lt}
@@ -158,9 +158,9 @@ of_field : (P : Header → Type 0) → P Missing → (s : List ℕ) (w at : ℕ)
 unfolding on_taken
 of_field P missing s w at next h = go (read_field s w at) (λ v c e. subst (λ x. x < 2 ^ w) (read_got s w at v c e).0 (bits_lt s at w))
   where
-    go : (r : Taken) → ((v : ℕ) (c : Cursor) → r ≡ Got v c → v < 2 ^ w) → P (on_taken r next)
-    go (Got v c) k = h v c (k v c refl)
-    go Past k = missing
+    go : (r : Taken) → ((v : ℕ) (c : Cursor) → r ≡ Some (v, c) → v < 2 ^ w) → P (on_taken r next)
+    go (Some (v, c)) k = h v c (k v c refl)
+    go None k = missing
 
 either : (P : Header → Type 0) (b : Bool) (h k : Header) → P h → P k → P (cond b h k)
 either P true h k p q = p

@@ -1,21 +1,21 @@
 -- Fields that lie in a file are found one after the other, and each part of them lies there too.
+use Rattle.std.specs.Prelude.{Some}
 use Prim.Native.Nat.{ℕ, ◌+◌, ◌≤◌}
 use mathlib.Core.Path.{◌≡◌, subst, ap, ◌∙◌}
 use mathlib.Core.List.{List, [], ◌∷◌, ◌++◌}
 use native.Mathlib.Omega.{arith}
 use Rattle.bits.specs.Bits.{read_field}
 use Rattle.bits.specs.Packed.{width, Reads}
-use Rattle.bits.specs.declared.Taken.TheVariants.{Got}
 use Rattle.bits.proofs.Fitting.{read_yes}
 use Rattle.bits.proofs.Groups.{width_append}
 use Rattle.grammar.specs.Listing.{Fields}
 use Rattle.instances.specs.Lying.{Lies}
 
 -- what the first field's read answers
-pub lies_first : (s : List ℕ) (at w v : ℕ) (fs : Fields) → w ≤ 16 → Lies s at ((w, v) ∷ fs) → read_field s w at ≡ Got v (record { at = at + w })
+pub lies_first : (s : List ℕ) (at w v : ℕ) (fs : Fields) → w ≤ 16 → Lies s at ((w, v) ∷ fs) → read_field s w at ≡ Some (v, record { at = at + w })
 unfolding Reads width
 lies_first s at w v fs narrow l =
-    read_yes s w at narrow (omega (arith, l.room)) ∙ ap (λ x. Got x (record { at = at + w })) l.reads.0
+    read_yes s w at narrow (omega (arith, l.room)) ∙ ap (λ x. Some (x, record { at = at + w })) l.reads.0
 
 pub lies_rest : (s : List ℕ) (at w v : ℕ) (fs : Fields) → Lies s at ((w, v) ∷ fs) → Lies s (at + w) fs
 unfolding Reads width

@@ -1,12 +1,12 @@
 -- A field that was taken is the one that lies there, and the fields behind it lie where it ends.
+use Rattle.std.specs.Prelude.{Some, None}
 use Prim.Native.Nat.{ℕ, zero, suc, ◌^◌, ◌≤◌, ◌<◌}
 use mathlib.Core.Path.{◌≡◌, sym, subst, ◌∙◌}
 use mathlib.Core.List.{List, ◌∷◌}
 use native.Mathlib.Omega.{arith}
 use Rattle.bits.specs.Bits.{read_field}
 use Rattle.bits.specs.declared.Cursor.{Cursor}
-use Rattle.bits.specs.declared.Taken.{Taken}
-use Rattle.bits.specs.declared.Taken.TheVariants.{Got, Past}
+use Rattle.bits.specs.Bits.{Taken}
 use Rattle.bits.proofs.Bytes.{bits_lt}
 use Rattle.bits.proofs.Fitting.{read_got}
 use Rattle.patterns.specs.First.{Pattern}
@@ -23,14 +23,14 @@ positive zero = omega arith
 positive (suc w) = omega (arith, positive w)
 
 module _ (s : List ℕ) (w at : ℕ) (narrow : w ≤ 16) where
-  pub takes_past : {f : Taken} → f ≡ read_field s w at → f ≡ Past → Takes s w at (record { value = 0; at = 0 })
+  pub takes_past : {f : Taken} → f ≡ read_field s w at → f ≡ None → Takes s w at (record { value = 0; at = 0 })
   takes_past e p = record {
     told = λ v fs l. let g = lies_first s at w v fs narrow l in let z : ◌≡◌ {A = ℕ} 0 1 = cc in absurd (omega arith);
     small = positive w;
     near = omega arith;
   }
 
-  pub takes_got : {f : Taken} (v : ℕ) (d : Cursor) → f ≡ read_field s w at → f ≡ Got v d → Takes s w at (record { value = v; at = d.at })
+  pub takes_got : {f : Taken} (v : ℕ) (d : Cursor) → f ≡ read_field s w at → f ≡ Some (v, d) → Takes s w at (record { value = v; at = d.at })
   takes_got v d e p =
       let got = read_got s w at v d (sym e ∙ p) in
       record {

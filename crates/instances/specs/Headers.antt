@@ -1,18 +1,17 @@
 -- The header of a node as it stands at a bit: its tag, and the fields that are its own.
-use Rattle.std.specs.Prelude.{ℕ, ◌≡◌, List, cond, eqb}
+use Rattle.std.specs.Prelude.{ℕ, ◌≡◌, List, cond, eqb, Some, None}
 use Rattle.bits.specs.Bits.{room_of, read_field}
 use Rattle.bits.specs.View.{Views}
 use Rattle.bits.specs.declared.Cursor.{Cursor}
-use Rattle.bits.specs.declared.Taken.{Taken}
-use Rattle.bits.specs.declared.Taken.TheVariants.{Got, Past}
+use Rattle.bits.specs.Bits.{Taken}
 use Rattle.instances.specs.Lying.{arities}
 use Rattle.instances.specs.declared.Header.{Header}
 use Rattle.instances.specs.declared.Header.TheVariants.{Variable, Symbol, Power, Missing}
 
 -- what a field leads to, if it is there
 unfoldable pub on_taken : Taken → (ℕ → Cursor → Header) → Header
-on_taken (Got v c) next = next v c
-on_taken Past next = Missing
+on_taken (Some (v, c)) next = next v c
+on_taken None next = Missing
 
 -- 01: "Tag 0: variable, 6 bits."
 unfoldable pub variable_at : List ℕ → ℕ → Header

@@ -7,7 +7,7 @@ use native.Mathlib.Omega.{arith}
 use lib.ListN.{length, take, length-map}
 use Rattle.patterns.specs.Reason.{book_place}
 use Rattle.fields.specs.declared.Walker.{Walker}
-use Rattle.fields.specs.declared.Walk.{Walk}
+use Rattle.fields.specs.Source.{Walk}
 use Rattle.fields.specs.Source.{Source, source, start}
 use Rattle.fields.specs.Grammar.{outcome}
 use Rattle.fields.specs.Grammar.Outcome.{ok}

@@ -1,4 +1,5 @@
 -- How the end of a file is looked at, and what a walk over a whole file comes to.
+use Rattle.std.specs.Prelude.{Ok, Err, Some, None}
 use Prim.Native.Nat.{ℕ, ◌+◌, ◌-◌, ◌*◌, ◌/◌, ◌^◌, ◌≤◌}
 use mathlib.Core.Path.{◌≡◌, refl, sym, ◌∙◌, ap, ap₂, subst}
 use mathlib.Core.List.{List, []}
@@ -10,14 +11,12 @@ use lib.ListN.{length}
 use lib.Dec.{eqb}
 use Rattle.answers.specs.Carried.{refusal_at, of_a_field, carried}
 use Rattle.answers.specs.Numbers.{w_of, paper_refusal}
-use Rattle.bits.specs.declared.Taken.{Taken as Bits}
-use Rattle.bits.specs.declared.Taken.TheVariants.{Got, Past}
+use Rattle.bits.specs.Bits.{Taken as Bits}
 use Rattle.bits.specs.Bits.{bits_at, room_of, read_field}
 use Rattle.bits.specs.Packed.{width, bytes_for}
 use Rattle.bits.proofs.Fitting.{read_yes}
 use Rattle.fields.specs.declared.Walker.{Walker}
-use Rattle.fields.specs.declared.Walk.{Walk}
-use Rattle.fields.specs.declared.Walk.TheVariants.{On, No}
+use Rattle.fields.specs.Source.{Walk}
 use Rattle.fields.specs.Source.{source, start}
 use Rattle.fields.specs.Grammar.{Grammar, Outcome, outcome, trace}
 use Rattle.fields.specs.Grammar.Outcome.{ok, no}
@@ -41,7 +40,7 @@ module _ (s : List ℕ) (bit : ℕ) where
   ends_long h = rw (ne_eqb (length s) (bytes_for bit) h)
 
   pub ends_read : length s ≡ (bit + 7) / 8 → {v : ℕ} {c : Rattle.bits.specs.declared.Cursor.Cursor} {f : Bits}
-      → bit ≤ 2 ^ 32 → bit ≤ 8 * length s → f ≡ read_field s (8 * length s - bit) bit → f ≡ Got v c
+      → bit ≤ 2 ^ 32 → bit ≤ 8 * length s → f ≡ read_field s (8 * length s - bit) bit → f ≡ Some (v, c)
       → ends_at s bit ≡ eqb v 0
   unfolding ends_at
   ends_read h {v} {c} near inside g e =
@@ -52,7 +51,7 @@ module _ (s : List ℕ) (bit : ℕ) where
       rw (eq-eqb (length s) (bytes_for bit) h, q)
 
   pub ends_past : length s ≡ (bit + 7) / 8 → {f : Bits} → bit ≤ 2 ^ 32 → bit ≤ 8 * length s
-      → f ≡ read_field s (8 * length s - bit) bit → f ≡ Past → ends_at s bit ≡ false
+      → f ≡ read_field s (8 * length s - bit) bit → f ≡ None → ends_at s bit ≡ false
   ends_past h near inside g e =
       let w : 8 * length s - bit ≤ 16 = omega arith in
       let r : bit + (8 * length s - bit) ≤ room_of s = omega arith in
@@ -72,8 +71,8 @@ shown_bytes val (no m c) us vs = refl
 
 -- what a walk answers, by its outcome
 walk_of : {A : Type 0} → (A → ℕ) → Outcome A → Walk
-walk_of val (ok a c) = On (val a) c
-walk_of val (no m c) = No m c
+walk_of val (ok a c) = Ok (val a, c)
+walk_of val (no m c) = Err (m, c)
 
 shown_walk : {A : Type 0} (val : A → ℕ) (o : Outcome A) (us vs : List ℕ) → (shown val (sunk o us vs)).walk ≡ walk_of val o
 unfolding walk_of
@@ -148,36 +147,36 @@ module _ {A : Type 0} (l : List ℕ) (p : Grammar A) {ws bs ws₁ bs₁ : List �
 
 -- ---- what the code makes of a walk
 
-pub bits_on : {r : Walk} {v : ℕ} {c : Walker} (n : ℕ) → r ≡ On v c → walked_bits r ≤ n → c.bit ≤ n
+pub bits_on : {r : Walk} {v : ℕ} {c : Walker} (n : ℕ) → r ≡ Ok (v, c) → walked_bits r ≤ n → c.bit ≤ n
 unfolding walked_bits
 bits_on n e h = subst (λ x. walked_bits x ≤ n) e h
 
 module _ (s : List ℕ) (place : W) {r : Walk} {c : Walker} where
-  pub bytes_good : {v : ℕ} {b : Bool} → r ≡ On v c → b ≡ ends_at s c.bit → b ≡ true
+  pub bytes_good : {v : ℕ} {b : Bool} → r ≡ Ok (v, c) → b ≡ ends_at s c.bit → b ≡ true
       → sight (Open v c.n c.bit) ≡ seen_bytes (w_of place) s r
   unfolding sight seen_bytes
   bytes_good e g t = rw (e, ← g, t)
 
-  pub bytes_left : {v : ℕ} {b : Bool} (f : Refusal) → r ≡ On v c → b ≡ ends_at s c.bit → b ≡ false
+  pub bytes_left : {v : ℕ} {b : Bool} (f : Refusal) → r ≡ Ok (v, c) → b ≡ ends_at s c.bit → b ≡ false
       → paper_refusal f ≡ carried 7 (w_of place) c.bit 0 → sight (Shut f) ≡ seen_bytes (w_of place) s r
   unfolding sight seen_bytes carried of_a_field
   bytes_left f e g t h = rw (e, ← g, t) (ap shut h)
 
-  pub bytes_no : {m : ℕ} (f : Refusal) → r ≡ No m c → paper_refusal f ≡ carried m (w_of place) c.bit 0
+  pub bytes_no : {m : ℕ} (f : Refusal) → r ≡ Err (m, c) → paper_refusal f ≡ carried m (w_of place) c.bit 0
       → sight (Shut f) ≡ seen_bytes (w_of place) s r
   unfolding sight seen_bytes
   bytes_no f e h = rw e (ap shut h)
 
 module _ (l : List ℕ) (place : W) {r : Walk} {c : Walker} where
-  pub list_good : {v : ℕ} → r ≡ On v c → c.n ≡ length l → sight (Open v c.n c.bit) ≡ seen_list (w_of place) l r
+  pub list_good : {v : ℕ} → r ≡ Ok (v, c) → c.n ≡ length l → sight (Open v c.n c.bit) ≡ seen_list (w_of place) l r
   unfolding sight seen_list
   list_good e g = rw (e, eq-eqb c.n (length l) g)
 
-  pub list_left : {v : ℕ} (f : Refusal) → r ≡ On v c → c.n ≢ length l → paper_refusal f ≡ carried 7 (w_of place) c.n 0
+  pub list_left : {v : ℕ} (f : Refusal) → r ≡ Ok (v, c) → c.n ≢ length l → paper_refusal f ≡ carried 7 (w_of place) c.n 0
       → sight (Shut f) ≡ seen_list (w_of place) l r
   unfolding sight seen_list carried of_a_field
   list_left f e g h = rw (e, ne_eqb c.n (length l) g) (ap shut h)
 
-  pub list_no : {m : ℕ} (f : Refusal) → r ≡ No m c → paper_refusal f ≡ carried m (w_of place) c.n 0 → sight (Shut f) ≡ seen_list (w_of place) l r
+  pub list_no : {m : ℕ} (f : Refusal) → r ≡ Err (m, c) → paper_refusal f ≡ carried m (w_of place) c.n 0 → sight (Shut f) ≡ seen_list (w_of place) l r
   unfolding sight seen_list
   list_no f e h = rw e (ap shut h)

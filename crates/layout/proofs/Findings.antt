@@ -1,4 +1,5 @@
 -- A file walked by bits to its end is what opening it says: the same tree or refusal, and the same notes of a book.
+use Rattle.std.specs.Prelude.{Ok, Err}
 use Prim.Native.Nat.{ℕ, ◌*◌, ◌^◌, ◌≤◌, ◌<◌}
 use mathlib.Core.Path.{◌≡◌, refl, sym, ◌∙◌, ap, subst}
 use mathlib.Core.List.{List, []}
@@ -25,8 +26,7 @@ use Rattle.grammar.specs.Limits.{call_counts}
 use Rattle.terms.specs.Arity.{arity_at}
 use Rattle.terms.specs.Values.{nothing}
 use Rattle.books.specs.Counts.{noted, rules_of_book}
-use Rattle.scans.specs.declared.Scan.{Scan}
-use Rattle.scans.specs.declared.Scan.TheVariants.{On, No}
+use Rattle.scans.specs.Glance.{Scan}
 use Rattle.scans.specs.Glance.{Glance, first_bit, glance, glanced, Scans}
 use Rattle.scans.specs.Counts.{CountedBook}
 use Rattle.scans.proofs.Joins.{uncounted, from_first}
@@ -71,21 +71,21 @@ module _ {A : Type 0} (s : List ℕ) (p : Grammar A) (val : A → ℕ) {r : Scan
 
 -- ---- what the code makes of it
 
-pub bits_on : {r : Scan} {v : ℕ} {c : Cursor} (n : ℕ) → r ≡ On v c → scanned_bits r ≤ n → c.at ≤ n
+pub bits_on : {r : Scan} {v : ℕ} {c : Cursor} (n : ℕ) → r ≡ Ok (v, c) → scanned_bits r ≤ n → c.at ≤ n
 unfolding scanned_bits
 bits_on n e h = subst (λ x. scanned_bits x ≤ n) e h
 
 module _ (s : List ℕ) (place : W) {r : Scan} {c : Cursor} where
-  pub end_good : {v : ℕ} {b : Bool} → r ≡ On v c → b ≡ ends_at s c.at → b ≡ true → finding (Good v) ≡ seen_to_end (w_of place) s r
+  pub end_good : {v : ℕ} {b : Bool} → r ≡ Ok (v, c) → b ≡ ends_at s c.at → b ≡ true → finding (Good v) ≡ seen_to_end (w_of place) s r
   unfolding finding seen_to_end
   end_good e g t = rw (e, ← g, t)
 
-  pub end_left : {v : ℕ} {b : Bool} (f : Refusal) → r ≡ On v c → b ≡ ends_at s c.at → b ≡ false
+  pub end_left : {v : ℕ} {b : Bool} (f : Refusal) → r ≡ Ok (v, c) → b ≡ ends_at s c.at → b ≡ false
       → paper_refusal f ≡ carried 7 (w_of place) c.at 0 → finding (Shut f) ≡ seen_to_end (w_of place) s r
   unfolding finding seen_to_end carried of_a_field
   end_left f e g t h = rw (e, ← g, t) (ap faulty h)
 
-  pub end_no : {m : ℕ} (f : Refusal) → r ≡ No m c → paper_refusal f ≡ carried m (w_of place) c.at 0
+  pub end_no : {m : ℕ} (f : Refusal) → r ≡ Err (m, c) → paper_refusal f ≡ carried m (w_of place) c.at 0
       → finding (Shut f) ≡ seen_to_end (w_of place) s r
   unfolding finding seen_to_end
   end_no f e h = rw e (ap faulty h)

@@ -12,7 +12,7 @@ use Rattle.bits.specs.Written.{Narrow}
 use Rattle.bits.specs.Packed.{bytes_for, packed}
 use Rattle.bits.proofs.PackedFields.{length_packed}
 use Rattle.patterns.specs.Reason.{Reason, book_place, certificate_place}
-use Rattle.fields.specs.declared.Walk.{Walk}
+use Rattle.fields.specs.Source.{Walk}
 use Rattle.fields.specs.Source.{source, start}
 use Rattle.fields.specs.Grammar.{Grammar}
 use Rattle.fields.specs.Run.{Ran}

@@ -12,7 +12,7 @@ use Rattle.answers.specs.Carried.{refusal_at}
 use Rattle.answers.specs.Numbers.{w_of}
 use Rattle.patterns.specs.Reason.{book_place}
 use Rattle.fields.specs.declared.Walker.{Walker}
-use Rattle.fields.specs.declared.Walk.{Walk}
+use Rattle.fields.specs.Source.{Walk}
 use Rattle.fields.specs.Source.{source, start}
 use Rattle.fields.specs.Grammar.{Grammar, Outcome, outcome, trace}
 use Rattle.fields.specs.Grammar.Outcome.{ok, no}

@@ -1,13 +1,12 @@
 -- What the judge finds of a file, where it walks by bits and asks only whether the file is good.
-use Rattle.std.specs.Prelude.{ℕ, ◌≡◌, List, cond, length, take}
+use Rattle.std.specs.Prelude.{ℕ, ◌≡◌, List, cond, length, take, Ok, Err}
 use Rattle.answers.specs.Carried.{refusal_at, carried}
 use Rattle.answers.specs.Numbers.{paper_refusal}
 use Rattle.patterns.specs.Reason.{Reason}
 use Rattle.grammar.specs.Books.{RuleBook}
 use Rattle.grammar.specs.Limits.{call_counts}
 use Rattle.terms.specs.Values.{nothing}
-use Rattle.scans.specs.declared.Scan.{Scan}
-use Rattle.scans.specs.declared.Scan.TheVariants.{On, No}
+use Rattle.scans.specs.Glance.{Scan}
 use Rattle.layout.specs.declared.seeing.Finding.{Finding}
 use Rattle.layout.specs.declared.seeing.Finding.TheVariants.{Good, Shut}
 use Rattle.layout.specs.Files.{Opened, good, bad, ends_at, open_book, open_certificate}
@@ -37,10 +36,10 @@ pub record CertificateSeen (book s : List ℕ) (r : Finding) : Type 0 where
 
 -- what a walk by bits comes to once the end of the file is looked at
 unfoldable pub seen_to_end : ℕ → List ℕ → Scan → Found
-seen_to_end w s (On v c) = cond (ends_at s c.at) (has v) (faulty (refusal_at 7 w c.at))
-seen_to_end w s (No m c) = faulty (carried m w c.at 0)
+seen_to_end w s (Ok (v, c)) = cond (ends_at s c.at) (has v) (faulty (refusal_at 7 w c.at))
+seen_to_end w s (Err (m, c)) = faulty (carried m w c.at 0)
 
 -- how far it went
 unfoldable pub scanned_bits : Scan → ℕ
-scanned_bits (On v c) = c.at
-scanned_bits (No m c) = 0
+scanned_bits (Ok (v, c)) = c.at
+scanned_bits (Err (m, c)) = 0

@@ -1,11 +1,10 @@
 -- What the code's first walk over a file comes to.
-use Rattle.std.specs.Prelude.{ℕ, ◌≡◌, List, cond, length, take, eqb}
+use Rattle.std.specs.Prelude.{ℕ, ◌≡◌, List, cond, length, take, eqb, Ok, Err}
 use Rattle.answers.specs.Carried.{refusal_at, carried}
 use Rattle.answers.specs.Numbers.{paper_refusal}
 use Rattle.bits.specs.Packed.{width}
 use Rattle.patterns.specs.Reason.{Reason}
-use Rattle.fields.specs.declared.Walk.{Walk}
-use Rattle.fields.specs.declared.Walk.TheVariants.{On, No}
+use Rattle.fields.specs.Source.{Walk}
 use Rattle.grammar.specs.Books.{RuleBook}
 use Rattle.grammar.specs.Limits.{call_counts}
 use Rattle.terms.specs.Values.{nothing}
@@ -42,17 +41,17 @@ pub record CallOpened (book s : List ℕ) (r : Opening) : Type 0 where
 
 -- what a walk over bytes, or over a list, comes to once its end is looked at
 unfoldable pub seen_bytes : ℕ → List ℕ → Walk → Sight
-seen_bytes w s (On v c) = cond (ends_at s c.bit) (sees v c.n c.bit) (shut (refusal_at 7 w c.bit))
-seen_bytes w s (No m c) = shut (carried m w c.bit 0)
+seen_bytes w s (Ok (v, c)) = cond (ends_at s c.bit) (sees v c.n c.bit) (shut (refusal_at 7 w c.bit))
+seen_bytes w s (Err (m, c)) = shut (carried m w c.bit 0)
 
 unfoldable pub seen_list : ℕ → List ℕ → Walk → Sight
-seen_list w l (On v c) = cond (eqb c.n (length l)) (sees v c.n c.bit) (shut (refusal_at 7 w c.n))
-seen_list w l (No m c) = shut (carried m w c.n 0)
+seen_list w l (Ok (v, c)) = cond (eqb c.n (length l)) (sees v c.n c.bit) (shut (refusal_at 7 w c.n))
+seen_list w l (Err (m, c)) = shut (carried m w c.n 0)
 
 -- how far a walk went
 unfoldable pub walked_bits : Walk → ℕ
-walked_bits (On v c) = c.bit
-walked_bits (No m c) = 0
+walked_bits (Ok (v, c)) = c.bit
+walked_bits (Err (m, c)) = 0
 
 -- a good book, and how many calls each of its rules has
 pub record Beside (book counts : List ℕ) : Type 0 where

@@ -1,4 +1,5 @@
 -- What is true of every tree that a grammar gives is true of what a walk by bits finds.
+use Rattle.std.specs.Prelude.{Ok, Err}
 use Prim.Native.Nat.{ℕ, ◌<◌, ◌≤◌}
 use mathlib.Core.Path.{◌≡◌, refl, sym, subst}
 use mathlib.Core.List.{List, []}
@@ -6,8 +7,7 @@ use mathlib.Core.Bool.{false}
 use mathlib.Core.Option.{Option, none, some}
 use native.Mathlib.Omega.{arith}
 use Rattle.bits.specs.declared.Cursor.{Cursor}
-use Rattle.fields.specs.declared.Field.{Field}
-use Rattle.fields.specs.declared.Field.TheVariants.{Got, Bad}
+use Rattle.fields.specs.Source.{Field}
 use Rattle.fields.specs.Source.{source}
 use Rattle.fields.specs.Kinds.{FieldKind, from_to, test}
 use Rattle.fields.specs.Kinds.{FieldKind as kind}
@@ -18,8 +18,7 @@ use Rattle.fields.proofs.Always.{Always, always_bind, always_then, field_below}
 use Rattle.grammar.specs.Terms.{any_term, a_term, a_pair}
 use Rattle.terms.specs.Values.{left_of, first_of}
 use Rattle.terms.proofs.Nodes.{term_left as left-by-fields}
-use Rattle.scans.specs.declared.Scan.{Scan}
-use Rattle.scans.specs.declared.Scan.TheVariants.{On}
+use Rattle.scans.specs.Glance.{Scan}
 use Rattle.scans.specs.Glance.{past, field_in_bytes, glance, Scans}
 use Rattle.scans.specs.Glance.Glance.{ok, no}
 use Rattle.scans.proofs.Seqs.{found, scan_ok}
@@ -42,10 +41,10 @@ always_glance P s (ask k r next) h c a d e =
 
     go : ((v : ℕ) → test r v ≡ none → glance s (next v) (past k c) ≡ ok a d → P a) → (f : Field)
         → on_field f (λ v. tested (test r v) (glance s (next v) (past k c)) (λ m. no m c)) (λ m. no m c) ≡ ok a d → P a
-    go q (Bad m) x = let z : ◌≡◌ {A = ℕ} 0 1 = cc in absurd (omega arith)
-    go q (Got v) x = under v (q v) (test r v) refl x
+    go q (Err m) x = let z : ◌≡◌ {A = ℕ} 0 1 = cc in absurd (omega arith)
+    go q (Ok v) x = under v (q v) (test r v) refl x
 
-module _ {A : Type 0} {s : List ℕ} {p : Grammar A} {c d : Cursor} {val : A → ℕ} {r : Scan} {v : ℕ} (h : Scans s p c val r) (e : r ≡ On v d) where
+module _ {A : Type 0} {s : List ℕ} {p : Grammar A} {c d : Cursor} {val : A → ℕ} {r : Scan} {v : ℕ} (h : Scans s p c val r) (e : r ≡ Ok (v, d)) where
   -- what is true of the number of every tree is true of the number that a walk hands back
   pub always_handed : (Q : ℕ → Type 0) → Always (λ a. Q (val a)) p → Q v
   always_handed Q k =
@@ -53,7 +52,7 @@ module _ {A : Type 0} {s : List ℕ} {p : Grammar A} {c d : Cursor} {val : A →
       subst Q x.1 (always_glance (λ a. Q (val a)) s p k c x.0 d x.2)
 
   -- a number that every tree has may be handed back
-  pub always_told : (num : A → ℕ) (n : ℕ) → Always (λ a. num a ≡ n) p → Scans s p c num (On n d)
+  pub always_told : (num : A → ℕ) (n : ℕ) → Always (λ a. num a ≡ n) p → Scans s p c num (Ok (n, d))
   always_told num n k =
       let x = found h e in
       scan_ok x.2 (sym (always_glance (λ a. num a ≡ n) s p k c x.0 d x.2))
@@ -61,12 +60,12 @@ module _ {A : Type 0} {s : List ℕ} {p : Grammar A} {c d : Cursor} {val : A →
 -- ---- the numbers that the code asks about
 
 pub taken_below : {s : List ℕ} (k : FieldKind) (least end : ℕ) {c d : Cursor} {r : Scan} {v : ℕ}
-    → Scans s (field k (from_to least end)) c (λ v. v) r → r ≡ On v d → v < end
+    → Scans s (field k (from_to least end)) c (λ v. v) r → r ≡ Ok (v, d) → v < end
 taken_below k least end h e = always_handed h e (λ v. v < end) (field_below k least end)
 
 -- the allowance falls
 pub term_left : {s : List ℕ} (deep : ℕ) (ar : ℕ → ℕ) (end least above left : ℕ) {c d : Cursor} {r : Scan} {k : ℕ}
-    → Scans s (a_term deep ar end least above left) c left_of r → r ≡ On k d → k ≤ left
+    → Scans s (a_term deep ar end least above left) c left_of r → r ≡ Ok (k, d) → k ≤ left
 term_left {s} deep ar end least above left {c} h e =
     let p = a_term deep ar end least above left in
     let x = found h e in
@@ -76,7 +75,7 @@ term_left {s} deep ar end least above left {c} h e =
 
 -- a variable in a file is below 64
 pub pair_small : {s : List ℕ} (ar : ℕ → ℕ) (least : ℕ) {c d : Cursor} {r : Scan} {x : ℕ}
-    → Scans s (a_pair ar least) c first_of r → r ≡ On x d → x < 64
+    → Scans s (a_pair ar least) c first_of r → r ≡ Ok (x, d) → x < 64
 unfolding a_pair Always
 pair_small ar least h e =
     always_handed h e (λ k. k < 64)

@@ -1,4 +1,5 @@
 -- How many calls a rule has, and what the walk over a book notes of it.
+use Rattle.std.specs.Prelude.{Ok, Err}
 use Prim.Native.Nat.{ℕ, ◌+◌, ◌-◌, ◌<◌, ◌≤◌}
 use mathlib.Core.Path.{◌≡◌, refl, sym, ◌∙◌, ap, subst}
 use mathlib.Core.List.{List, [], ◌∷◌}
@@ -19,8 +20,7 @@ use Rattle.grammar.specs.Limits.{call_counts}
 use Rattle.terms.specs.Values.{nothing}
 use Rattle.books.specs.Counts.{noted, calls_of, how_many_rules}
 use Rattle.books.proofs.Counting.{rules_many, roots_many}
-use Rattle.scans.specs.declared.Scan.{Scan}
-use Rattle.scans.specs.declared.Scan.TheVariants.{On, No}
+use Rattle.scans.specs.Glance.{Scan}
 use Rattle.scans.specs.Glance.{Glance, glance, Scans}
 use Rattle.scans.specs.Glance.Glance.{ok, no}
 use Rattle.scans.specs.Counts.{Counted}
@@ -36,12 +36,12 @@ rule_calls ar n =
     (many_length (roots_of ar) (root_term ar) (λ g. g.term) (roots_many ar) n) (λ ts h. h))
 
 -- so the walk may hand back that number
-pub rule_counted : {s : List ℕ} (ar : ℕ → ℕ) (n : ℕ) {c d : Cursor} {r : Scan} {v : ℕ} → Scans s (a_rule_of ar n) c nothing r → r ≡ On v d
-    → Scans s (a_rule_of ar n) c calls_of (On n d)
+pub rule_counted : {s : List ℕ} (ar : ℕ → ℕ) (n : ℕ) {c d : Cursor} {r : Scan} {v : ℕ} → Scans s (a_rule_of ar n) c nothing r → r ≡ Ok (v, d)
+    → Scans s (a_rule_of ar n) c calls_of (Ok (n, d))
 rule_counted ar n h e = always_told h e calls_of n (rule_calls ar n)
 
 -- a rule has at most 8 calls
-pub rule_few : {s : List ℕ} (ar : ℕ → ℕ) {c d : Cursor} {r : Scan} {n : ℕ} → Scans s (a_rule ar) c calls_of r → r ≡ On n d → n ≤ 8
+pub rule_few : {s : List ℕ} (ar : ℕ → ℕ) {c d : Cursor} {r : Scan} {n : ℕ} → Scans s (a_rule ar) c calls_of r → r ≡ Ok (n, d) → n ≤ 8
 unfolding a_rule
 rule_few ar h e =
     always_handed h e (λ k. k ≤ 8)
@@ -49,8 +49,8 @@ rule_few ar h e =
     (λ v k. always_weaken (λ r. calls_of r ≡ v) (λ r. calls_of r ≤ 8) (λ r q. omega arith) (a_rule_of ar v) (rule_calls ar v)))
 
 -- there are as many rules as were asked for
-pub rules_all : {s : List ℕ} (ar : ℕ → ℕ) (n : ℕ) {c d : Cursor} {r : Scan} {v : ℕ} → Scans s (rules_of ar n) c nothing r → r ≡ On v d
-    → Scans s (rules_of ar n) c how_many_rules (On n d)
+pub rules_all : {s : List ℕ} (ar : ℕ → ℕ) (n : ℕ) {c d : Cursor} {r : Scan} {v : ℕ} → Scans s (rules_of ar n) c nothing r → r ≡ Ok (v, d)
+    → Scans s (rules_of ar n) c how_many_rules (Ok (n, d))
 rules_all ar n h e = always_told h e how_many_rules n (many_length (rules_of ar) (a_rule ar) (λ r. r) (rules_many ar) n)
 
 -- ---- what is noted
@@ -69,14 +69,14 @@ module _ {s : List ℕ} (ar : ℕ → ℕ) (n k : ℕ) {c : Cursor} {cs : List �
       empty rs d e = cc
 
   module _ {r : Scan} (first : Scans s (a_rule ar) c calls_of r) {m : ℕ} {d : Cursor} (some : n ≢ 0) where
-    pub counted_no : r ≡ No m d → Counted s (rules_of ar n) c k cs cs
+    pub counted_no : r ≡ Err (m, d) → Counted s (rules_of ar n) c k cs cs
     unfolding go_on
     counted_no e = record { all = λ rs f q. absurd (never rs f (sym (rules_step s ar n c some ∙ ap (go_on s _) (refused first e)) ∙ q)) }
       where
         never : (rs : Book Exp) (f : Cursor) → ◌≡◌ {A = Glance (Book Exp)} (no m d) (ok rs f) → ⊥
         never rs f q = let z : ◌≡◌ {A = ℕ} 0 1 = cc in omega arith
 
-    pub counted_more : {mid after : List ℕ} → r ≡ On m d → mid ≡ set cs k m → Counted s (rules_of ar (n - 1)) d (k + 1) mid after
+    pub counted_more : {mid after : List ℕ} → r ≡ Ok (m, d) → mid ≡ set cs k m → Counted s (rules_of ar (n - 1)) d (k + 1) mid after
         → Counted s (rules_of ar n) c k cs after
     unfolding go_on noted call_counts
     counted_more {mid} {after} e p rest =
@@ -102,7 +102,7 @@ module _ {s : List ℕ} (ar : ℕ → ℕ) (n k : ℕ) {c : Cursor} {cs : List �
 
 -- what is noted of a part is noted of the whole
 module _ {s : List ℕ} {c d : Cursor} {r : Scan} {m : ℕ} where
-  pub list_no : (p : Grammar ℕ) (f : ℕ → Grammar (Book Exp)) (k : ℕ) {cs : List ℕ} → Scans s p c (λ v. v) r → r ≡ No m d
+  pub list_no : (p : Grammar ℕ) (f : ℕ → Grammar (Book Exp)) (k : ℕ) {cs : List ℕ} → Scans s p c (λ v. v) r → r ≡ Err (m, d)
       → Counted s (bind p f) c k cs cs
   unfolding go_on
   list_no p f k h e = record {
@@ -111,7 +111,7 @@ module _ {s : List ℕ} {c d : Cursor} {r : Scan} {m : ℕ} where
         let y : ◌≡◌ {A = ℕ} 0 1 = cc in absurd (omega arith);
   }
 
-  pub list_on : (p : Grammar ℕ) (f : ℕ → Grammar (Book Exp)) (k : ℕ) {cs after : List ℕ} → Scans s p c (λ v. v) r → r ≡ On m d
+  pub list_on : (p : Grammar ℕ) (f : ℕ → Grammar (Book Exp)) (k : ℕ) {cs after : List ℕ} → Scans s p c (λ v. v) r → r ≡ Ok (m, d)
       → Counted s (f m) d k cs after → Counted s (bind p f) c k cs after
   unfolding go_on
   list_on p f k h e rest = record {
@@ -136,8 +136,8 @@ module _ {s : List ℕ} (ar : ℕ → ℕ) {p : Grammar (Book Exp)} {c d : Curso
   notes_end h = N.whole (counted_none ar n j (omega arith))
 
   module _ {r : Scan} {e : Cursor} {m : ℕ} (some : 0 < n) (first : Scans s (a_rule ar) d calls_of r) where
-    pub notes_no : r ≡ No m e → Counted s p c k cs ds
+    pub notes_no : r ≡ Err (m, e) → Counted s p c k cs ds
     notes_no q = N.whole (counted_no ar n j first (λ z. omega arith) q)
 
-    pub notes_on : {es : List ℕ} → r ≡ On m e → es ≡ set ds j m → NotesCalls s p c k cs (rules_of ar (n - 1)) e (j + 1) es
+    pub notes_on : {es : List ℕ} → r ≡ Ok (m, e) → es ≡ set ds j m → NotesCalls s p c k cs (rules_of ar (n - 1)) e (j + 1) es
     notes_on q p = record { whole = λ rest. N.whole (counted_more ar n j first (λ z. omega arith) q p rest) }

@@ -1,4 +1,5 @@
 -- The fields of a node that one view holds, and what its head comes to.
+use Rattle.std.specs.Prelude.{Ok}
 use Prim.Native.Nat.{ℕ, ◌+◌, ◌-◌, ◌/◌, ◌%◌, ◌^◌, ◌<◌, ◌≤◌}
 use mathlib.Core.Path.{◌≡◌, refl, ap, ◌∙◌, subst}
 use mathlib.Core.Logic.{◌≢◌}
@@ -9,7 +10,6 @@ use borrow.Author.Tests.{eq-eqb, ne_eqb, le-leb, lt-leb}
 use Rattle.bits.specs.Bits.{bits_at, room_of}
 use Rattle.bits.specs.View.{Views}
 use Rattle.bits.specs.declared.Cursor.{Cursor}
-use Rattle.fields.specs.declared.Field.TheVariants.{Got}
 use Rattle.fields.specs.Source.{packed_field}
 use Rattle.fields.specs.Kinds.{any, applied, node, test, between}
 use Rattle.fields.specs.Kinds.{FieldKind as kind}
@@ -18,7 +18,7 @@ use Rattle.fields.proofs.Ranges.{between_low, between_high, between_ok}
 use Rattle.grammar.specs.Terms.{Grown, args_of, a_symbol, a_variable, an_applied, a_raised, a_node}
 use Rattle.terms.specs.Values.{left_of, left_of_all}
 use Rattle.terms.proofs.Nodes.{node_variable, node_applied, node_raised}
-use Rattle.scans.specs.declared.Scan.{Scan}
+use Rattle.scans.specs.Glance.{Scan}
 use Rattle.scans.specs.declared.heads.Head.{Head}
 use Rattle.scans.specs.declared.heads.Head.TheVariants.{Leaf, Applied, Bad}
 use Rattle.scans.specs.Glance.{Scans}
@@ -33,7 +33,7 @@ pub at_bit : {n m : ℕ} → n ≡ m → ◌≡◌ {A = Cursor} (record { at = n
 at_bit e = λ i. record { at = e i }
 
 pub view_field : (s : List ℕ) {at x : ℕ} → Views s at x → (o w : ℕ) → w ≤ 16 → o + w ≤ 56 → at + (o + w) ≤ room_of s
-    → packed_field s w (at + o) ≡ Got (x / 2 ^ (64 - o - w) % 2 ^ w)
+    → packed_field s w (at + o) ≡ Ok (x / 2 ^ (64 - o - w) % 2 ^ w)
 view_field s {at} view o w h k r = packed_in s w (at + o) h (omega arith) (view.field o w k)
 
 -- ---- a symbol
@@ -86,7 +86,7 @@ heading_in h (heading.variable k) = heading.variable (h _ k)
 heading_in h (heading.applied n k) = heading.applied n (λ x y. h x (k x y))
 heading_in h (heading.raised k) = heading.raised (λ x y. h x (k x y))
 
-the_tag : (s : List ℕ) (c : Cursor) {room x : ℕ} → room ≡ room_of s → Views s c.at x → c.at + 2 ≤ room → packed_field s 2 c.at ≡ Got (x / 2 ^ 62 % 4)
+the_tag : (s : List ℕ) (c : Cursor) {room x : ℕ} → room ≡ room_of s → Views s c.at x → c.at + 2 ≤ room → packed_field s 2 c.at ≡ Ok (x / 2 ^ 62 % 4)
 the_tag s c known view inside =
     packed_in s 2 c.at (omega arith) (omega arith) (view.field 0 2 (omega arith) ∙ ap (λ n. bits_at s n 2) (omega arith))
 

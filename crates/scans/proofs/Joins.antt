@@ -1,4 +1,5 @@
 -- The walk by bits and the run of a grammar over a file's bytes come to the same tree or refusal, at the same bit.
+use Rattle.std.specs.Prelude.{Ok, Err}
 use Prim.Native.Nat.{ℕ, ◌+◌, ◌^◌, ◌<◌, ◌≤◌}
 use mathlib.Core.Path.{◌≡◌, refl, sym, ap, ◌∙◌}
 use mathlib.Core.List.{List, []}
@@ -8,8 +9,7 @@ use native.Mathlib.Omega.{arith}
 use native.Mathlib.Decide.{dec_lt}
 use Rattle.bits.specs.declared.Cursor.{Cursor}
 use Rattle.fields.specs.declared.Walker.{Walker}
-use Rattle.fields.specs.declared.Field.{Field}
-use Rattle.fields.specs.declared.Field.TheVariants.{Got, Bad}
+use Rattle.fields.specs.Source.{Field}
 use Rattle.fields.specs.Source.{source, field_at, packed_field, moved, start}
 use Rattle.fields.specs.Kinds.{FieldKind, bits, test}
 use Rattle.fields.specs.Kinds.{FieldKind as kind}
@@ -57,10 +57,10 @@ same_field s k c b h = go (dec_lt c.bit (2 ^ 32))
     few : bits k ≤ 16
     few = omega (arith, (bits_some k).1)
 
-    far : 2 ^ 32 ≤ c.bit → field_at s [] (bits k) c ≡ Bad 3
+    far : 2 ^ 32 ≤ c.bit → field_at s [] (bits k) c ≡ Err 3
     far j = many (dec_lt c.n (2 ^ 32))
       where
-        many : Dec (c.n < 2 ^ 32) → field_at s [] (bits k) c ≡ Bad 3
+        many : Dec (c.n < 2 ^ 32) → field_at s [] (bits k) c ≡ Err 3
         many (yes n) = field_far s [] (bits k) c few n j
         many (no n) = field_many s [] (bits k) c few (omega arith)
 
@@ -94,8 +94,8 @@ module _ (s : List ℕ) where
           → uncounted (on_field f (λ v. tested (test r v) (outcome (source s []) (next v) (moved (bits k) c)) (λ m. Outcome.no m c)) (λ m. Outcome.no m c))
           ≡ on_field f (λ v. tested (test r v) (glance s (next v) (record { at = c.bit + bits k })) (λ m. Glance.no m (record { at = c.bit })))
           (λ m. Glance.no m (record { at = c.bit }))
-      go ih (Got v) = under v (ih v) (test r v)
-      go ih (Bad m) = refl
+      go ih (Ok v) = under v (ih v) (test r v)
+      go ih (Err m) = refl
 
 -- ---- a whole file, from its first bit on
 

@@ -1,4 +1,5 @@
 -- A term from power to power, as the loop meets it: whatever is found from a power on is found of the whole.
+use Rattle.std.specs.Prelude.{Ok, Err}
 use Prim.Native.Nat.{ℕ, zero, suc, ◌-◌, ◌≤◌}
 use mathlib.Core.Path.{◌≡◌, refl, subst}
 use mathlib.Core.List.{List}
@@ -11,8 +12,7 @@ use Rattle.fields.specs.Kinds.{FieldKind as kind}
 use Rattle.fields.specs.Grammar.{Grammar, bind, field}
 use Rattle.grammar.specs.Terms.{Grown, a_node, a_term, args_of}
 use Rattle.terms.specs.Values.{left_of, left_of_all}
-use Rattle.scans.specs.declared.Scan.{Scan}
-use Rattle.scans.specs.declared.Scan.TheVariants.{On, No}
+use Rattle.scans.specs.Glance.{Scan}
 use Rattle.scans.specs.declared.heads.Head.{Head}
 use Rattle.scans.specs.declared.heads.Head.TheVariants.{Leaf, Applied, Raised, Bad}
 use Rattle.scans.specs.Glance.{Scans}
@@ -23,7 +23,7 @@ use Rattle.scans.proofs.Seqs.{seq_first, scan_spent}
 -- ---- a term, by the nodes that are allowed
 
 term_none : {s : List ℕ} (deep : ℕ) (ar : ℕ → ℕ) (end least above left : ℕ) {c : Cursor} → left ≡ 0
-    → Scans s (a_term deep ar end least above left) c left_of (No 6 c)
+    → Scans s (a_term deep ar end least above left) c left_of (Err (6, c))
 unfolding a_term bind field
 term_none zero ar end least above left {c} h = scan_spent kind.tag (node least 0) _ c refl
 term_none (suc deep) ar end least above left {c} h = scan_spent kind.tag (node least left) _ c (eq-eqb left 0 h)
@@ -39,10 +39,10 @@ term_some (suc deep) ar end least above left n h f = f deep (omega arith)
 -- ---- what a head says of its node
 
 module _ {s : List ℕ} {p : Grammar Grown} {c : Cursor} {term : ℕ → ℕ → Grammar Grown} {rest : ℕ} where
-  head_bad : {m : ℕ} {d : Cursor} → Heading s p c term rest (Bad m d) → Scans s p c left_of (No m d)
+  head_bad : {m : ℕ} {d : Cursor} → Heading s p c term rest (Bad m d) → Scans s p c left_of (Err (m, d))
   head_bad (heading.refused h) = h
 
-  head_leaf : {d : Cursor} → Heading s p c term rest (Leaf d) → Scans s p c left_of (On rest d)
+  head_leaf : {d : Cursor} → Heading s p c term rest (Leaf d) → Scans s p c left_of (Ok (rest, d))
   head_leaf (heading.variable h) = h
 
   head_few : {n : ℕ} {d : Cursor} → Heading s p c term rest (Applied n d) → n ≤ 8
@@ -70,14 +70,14 @@ pub through_here : {s : List ℕ} {ar : ℕ → ℕ} {end least left : ℕ} {c :
 through_here = record { whole = λ x h. h }
 
 module _ {s : List ℕ} {ar : ℕ → ℕ} {end least left : ℕ} {c : Cursor} {from above rest : ℕ} {d : Cursor} (T : Through s ar end least left c from above rest d) where
-  pub through_none : rest ≡ 0 → (deep : ℕ) → left ≤ deep → Scans s (a_term deep ar end least 256 left) c left_of (No 6 d)
-  through_none h = T.whole (No 6 d) (λ deep k. term_none deep ar end from above rest h)
+  pub through_none : rest ≡ 0 → (deep : ℕ) → left ≤ deep → Scans s (a_term deep ar end least 256 left) c left_of (Err (6, d))
+  through_none h = T.whole (Err (6, d)) (λ deep k. term_none deep ar end from above rest h)
 
   module _ (some : rest ≢ 0) {r : Head} (N : NodeAt s ar end from above d r) where
-    pub through_bad : {m : ℕ} {e : Cursor} → r ≡ Bad m e → (deep : ℕ) → left ≤ deep → Scans s (a_term deep ar end least 256 left) c left_of (No m e)
+    pub through_bad : {m : ℕ} {e : Cursor} → r ≡ Bad m e → (deep : ℕ) → left ≤ deep → Scans s (a_term deep ar end least 256 left) c left_of (Err (m, e))
     through_bad q = T.whole _ (λ deep k. term_some deep ar end from above rest some k (λ f l. head_bad (at_head q (N.told rest some _))))
 
-    pub through_leaf : {e : Cursor} → r ≡ Leaf e → (deep : ℕ) → left ≤ deep → Scans s (a_term deep ar end least 256 left) c left_of (On (rest - 1) e)
+    pub through_leaf : {e : Cursor} → r ≡ Leaf e → (deep : ℕ) → left ≤ deep → Scans s (a_term deep ar end least 256 left) c left_of (Ok (rest - 1, e))
     through_leaf q = T.whole _ (λ deep k. term_some deep ar end from above rest some k (λ f l. head_leaf (at_head q (N.told rest some _))))
 
     pub through_few : {n : ℕ} {e : Cursor} → r ≡ Applied n e → n ≤ 8

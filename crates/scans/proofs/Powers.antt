@@ -1,4 +1,5 @@
 -- The power of a node: its symbol, and its two numbers, in one view.
+use Rattle.std.specs.Prelude.{Ok}
 use Prim.Native.Nat.{ℕ, ◌+◌, ◌/◌, ◌%◌, ◌^◌, ◌<◌, ◌≤◌}
 use mathlib.Core.Path.{◌≡◌, refl, sym, subst}
 use mathlib.Core.Logic.{◌≢◌}
@@ -14,7 +15,6 @@ use Rattle.fields.specs.Grammar.{field}
 use Rattle.fields.proofs.Ranges.{between_high, between_ok, passes_exactly, unnormal_exactly}
 use Rattle.grammar.specs.Terms.{a_unary, an_exponent, a_raise, a_raised}
 use Rattle.terms.specs.Values.{left_of, first_of}
-use Rattle.scans.specs.declared.Scan.TheVariants.{On}
 use Rattle.scans.specs.declared.heads.Head.TheVariants.{Raised, Bad}
 use Rattle.scans.specs.Glance.{Scans}
 use Rattle.scans.specs.Headings.{PowerAt}
@@ -49,7 +49,7 @@ beside_zero a b h = (unnormal_exactly (beside a) b).1 ((λ z. z), tt, h)
 -- the symbol is passed
 symbol_in : (ar : ℕ → ℕ) (above : ℕ) {x at left n : ℕ} → n ≡ ar (x / 2 ^ 54 % 256) → 10 ≤ left → n ≡ 1 → x / 2 ^ 54 % 256 ≢ above
     → (s : List ℕ) → Views s at x → at + left ≡ room_of s
-    → Scans s (a_unary ar above) (record { at = at + 2 }) (λ v. v) (On (x / 2 ^ 54 % 256) (record { at = at + 10 }))
+    → Scans s (a_unary ar above) (record { at = at + 2 }) (λ v. v) (Ok (x / 2 ^ 54 % 256, record { at = at + 10 }))
 unfolding a_unary
 symbol_in ar above {x} {at} {left} {n} found room one unlike s view e =
     field_in s kind.power_symbol (unary ar above) _ refl (x / 2 ^ 54 % 256) (view_field s view 2 8 (omega arith) (omega arith) (omega arith))
@@ -57,7 +57,7 @@ symbol_in ar above {x} {at} {left} {n} found room one unlike s view e =
 
 -- a is passed
 a_in : (end : ℕ) {x at left : ℕ} → 22 ≤ left → x / 2 ^ 42 % 4096 < end → (s : List ℕ) → Views s at x → at + left ≡ room_of s
-    → Scans s (field kind.power_a (from_to 0 end)) (record { at = at + 10 }) (λ v. v) (On (x / 2 ^ 42 % 4096) (record { at = at + 22 }))
+    → Scans s (field kind.power_a (from_to 0 end)) (record { at = at + 10 }) (λ v. v) (Ok (x / 2 ^ 42 % 4096, record { at = at + 22 }))
 a_in end {x} {at} room low s view e =
     field_in s kind.power_a (from_to 0 end) _ refl (x / 2 ^ 42 % 4096) (view_field s view 10 12 (omega arith) (omega arith) (omega arith))
     (between_ok 0 end 4 _ (omega arith) low) refl (at_bit {n = at + 22} (omega arith))

@@ -1,4 +1,5 @@
 -- One walk after the other: what the code's two calls come to for `bind`.
+use Rattle.std.specs.Prelude.{Ok, Err}
 use mathlib.Core.Path.{◌≡◌, refl, sym, ap, ◌∙◌, subst}
 use mathlib.Core.List.{List}
 use mathlib.Core.Bool.{true}
@@ -6,12 +7,10 @@ use mathlib.Core.Option.{Option, none, some}
 use Prim.Native.Nat.{ℕ}
 use native.Mathlib.Omega.{arith}
 use Rattle.bits.specs.declared.Cursor.{Cursor}
-use Rattle.fields.specs.declared.Field.{Field}
-use Rattle.fields.specs.declared.Field.TheVariants.{Got, Bad}
+use Rattle.fields.specs.Source.{Field}
 use Rattle.fields.specs.Kinds.{FieldKind, Range, test, spent}
 use Rattle.fields.specs.Grammar.{Grammar, done, ask, bind, on_field, tested}
-use Rattle.scans.specs.declared.Scan.{Scan}
-use Rattle.scans.specs.declared.Scan.TheVariants.{On, No}
+use Rattle.scans.specs.Glance.{Scan}
 use Rattle.scans.specs.Glance.{Glance, past, field_in_bytes, glance, glanced, Scans}
 use Rattle.scans.specs.Glance.Glance.{ok, no}
 
@@ -28,8 +27,8 @@ module _ {A B : Type 0} (s : List ℕ) (f : A → Grammar B) where
       → on_field x (λ v. tested (test r v) (glance s (bind (next v) f) (past k c)) (λ m. no m c)) (λ m. no m c)
       ≡ go_on (on_field x (λ v. tested (test r v) (glance s (next v) (past k c)) (λ m. no m c)) (λ m. no m c))
   unfolding go_on
-  ask_bind k r next c ih (Bad m) = refl
-  ask_bind k r next c ih (Got v) = under (test r v)
+  ask_bind k r next c ih (Err m) = refl
+  ask_bind k r next c ih (Ok v) = under (test r v)
     where
       under : (o : Option ℕ)
           → tested o (glance s (bind (next v) f) (past k c)) (λ m. no m c)
@@ -45,40 +44,40 @@ module _ {A B : Type 0} (s : List ℕ) (f : A → Grammar B) where
 -- ---- what the code shows of a glance
 
 module _ {A : Type 0} (val : A → ℕ) (d : Cursor) where
-  shown_on : (x : Glance A) (v : ℕ) → On v d ≡ glanced val x → (a : A) × (val a ≡ v) × (x ≡ ok a d)
+  shown_on : (x : Glance A) (v : ℕ) → Ok (v, d) ≡ glanced val x → (a : A) × (val a ≡ v) × (x ≡ ok a d)
   shown_on (ok a c) v p = (a, cc p, λ i. ok a (cursor p i))
     where
-      cursor : On v d ≡ On (val a) c → c ≡ d
+      cursor : Ok (v, d) ≡ Ok (val a, c) → c ≡ d
       cursor q = cc
   shown_on (no m c) v p = let z : ◌≡◌ {A = ℕ} 0 1 = cc p in absurd (omega arith)
 
-  shown_no : (x : Glance A) (m : ℕ) → No m d ≡ glanced val x → x ≡ no m d
+  shown_no : (x : Glance A) (m : ℕ) → Err (m, d) ≡ glanced val x → x ≡ no m d
   shown_no (ok a c) m p = let z : ◌≡◌ {A = ℕ} 0 1 = cc p in absurd (omega arith)
   shown_no (no k c) m p = λ i. no (number p i) (cursor p i)
     where
-      number : No m d ≡ No k c → k ≡ m
+      number : Err (m, d) ≡ Err (k, c) → k ≡ m
       number q = cc
 
-      cursor : No m d ≡ No k c → c ≡ d
+      cursor : Err (m, d) ≡ Err (k, c) → c ≡ d
       cursor q = cc
 
 -- ---- two walks
 
 module _ {A : Type 0} {s : List ℕ} {p : Grammar A} {c : Cursor} {val : A → ℕ} {r : Scan} (first : Scans s p c val r) where
   -- what was found, where the first walk went on
-  pub found : {v : ℕ} {d : Cursor} → r ≡ On v d → (a : A) × (val a ≡ v) × (glance s p c ≡ ok a d)
+  pub found : {v : ℕ} {d : Cursor} → r ≡ Ok (v, d) → (a : A) × (val a ≡ v) × (glance s p c ≡ ok a d)
   found {v} {d} e = shown_on val d (glance s p c) v (sym e ∙ first.told)
 
-  pub refused : {m : ℕ} {d : Cursor} → r ≡ No m d → glance s p c ≡ no m d
+  pub refused : {m : ℕ} {d : Cursor} → r ≡ Err (m, d) → glance s p c ≡ no m d
   refused {m} {d} e = shown_no val d (glance s p c) m (sym e ∙ first.told)
 
   -- it was refused: so is the whole
-  pub seq_no : {B : Type 0} (f : A → Grammar B) {val₂ : B → ℕ} {m : ℕ} {d : Cursor} → r ≡ No m d → Scans s (bind p f) c val₂ (No m d)
+  pub seq_no : {B : Type 0} (f : A → Grammar B) {val₂ : B → ℕ} {m : ℕ} {d : Cursor} → r ≡ Err (m, d) → Scans s (bind p f) c val₂ (Err (m, d))
   unfolding go_on
   seq_no f {val₂} e = record { told = ap (glanced val₂) (sym (glance_bind s f p c ∙ ap (go_on s f) (refused e))) }
 
   -- it went on: the whole is the second walk over what was found
-  pub seq_found : {B : Type 0} (f : A → Grammar B) {val₂ : B → ℕ} {v : ℕ} {d : Cursor} {r₂ : Scan} → r ≡ On v d
+  pub seq_found : {B : Type 0} (f : A → Grammar B) {val₂ : B → ℕ} {v : ℕ} {d : Cursor} {r₂ : Scan} → r ≡ Ok (v, d)
       → ((a : A) → val a ≡ v → glance s p c ≡ ok a d → Scans s (f a) d val₂ r₂) → Scans s (bind p f) c val₂ r₂
   unfolding go_on
   seq_found f {val₂} e second =
@@ -88,13 +87,13 @@ module _ {A : Type 0} {s : List ℕ} {p : Grammar A} {c : Cursor} {val : A → �
       }
 
   -- of what was found only a number need be known
-  pub seq_on : {B : Type 0} (f : A → Grammar B) {val₂ : B → ℕ} {v : ℕ} {d : Cursor} {r₂ : Scan} → r ≡ On v d
+  pub seq_on : {B : Type 0} (f : A → Grammar B) {val₂ : B → ℕ} {v : ℕ} {d : Cursor} {r₂ : Scan} → r ≡ Ok (v, d)
       → ((a : A) → val a ≡ v → Scans s (f a) d val₂ r₂) → Scans s (bind p f) c val₂ r₂
   seq_on f e second = seq_found f e (λ a q g. second a q)
 
 -- a number that was found is known
 pub seq_at : {B : Type 0} {s : List ℕ} {p : Grammar ℕ} (f : ℕ → Grammar B) {c d : Cursor} {val₂ : B → ℕ} {r r₂ : Scan} {v : ℕ}
-    → Scans s p c (λ v. v) r → r ≡ On v d → Scans s (f v) d val₂ r₂ → Scans s (bind p f) c val₂ r₂
+    → Scans s p c (λ v. v) r → r ≡ Ok (v, d) → Scans s (f v) d val₂ r₂ → Scans s (bind p f) c val₂ r₂
 seq_at {s = s} f {d = d} {val₂ = val₂} {r₂ = r₂} first e second =
     seq_on first f e (λ a q. subst (λ x. Scans s (f x) d val₂ r₂) (sym q) second)
 
@@ -103,7 +102,7 @@ seq_at {s = s} f {d = d} {val₂ = val₂} {r₂ = r₂} first e second =
 module _ {A B : Type 0} (s : List ℕ) (h : A → B) (val : A → ℕ) (val₂ : B → ℕ) (same : (a : A) → val₂ (h a) ≡ val a) where
   shown_last : (x : Glance A) → glanced val₂ (go_on s (λ a. done (h a)) x) ≡ glanced val x
   unfolding go_on glance
-  shown_last (ok a d) = ap (λ (v : ℕ). On v d) (same a)
+  shown_last (ok a d) = ap (λ (v : ℕ). Ok (v, d)) (same a)
   shown_last (no m d) = refl
 
   last_same : (p : Grammar A) (c : Cursor) → glanced val₂ (glance s (bind p (λ a. done (h a))) c) ≡ glanced val (glance s p c)
@@ -119,26 +118,26 @@ module _ {A B : Type 0} {s : List ℕ} {p : Grammar A} (h : A → B) {c : Cursor
   seq_first whole = record { told = whole.told ∙ last_same s h val val₂ same p c }
 
 -- nothing is left to read
-pub scan_done : {A : Type 0} {s : List ℕ} {val : A → ℕ} (a : A) (c : Cursor) → Scans s (done a) c val (On (val a) c)
+pub scan_done : {A : Type 0} {s : List ℕ} {val : A → ℕ} (a : A) (c : Cursor) → Scans s (done a) c val (Ok (val a, c))
 unfolding glance
 scan_done a c = record { told = refl }
 
 -- no node is allowed any more
 pub scan_spent : {A : Type 0} {s : List ℕ} {val : A → ℕ} (k : FieldKind) (r : Range) (next : ℕ → Grammar A) (c : Cursor) → spent r ≡ true
-    → Scans s (ask k r next) c val (No 6 c)
+    → Scans s (ask k r next) c val (Err (6, c))
 unfolding glance
 scan_spent k r next c e = record { told = rw e }
 
 -- ---- a walk by its glance
 
 module _ {A : Type 0} {s : List ℕ} {p : Grammar A} {c d : Cursor} {val : A → ℕ} where
-  pub scan_ok : {a : A} {v : ℕ} → glance s p c ≡ ok a d → v ≡ val a → Scans s p c val (On v d)
-  scan_ok e q = record { told = ap (λ (n : ℕ). On n d) q ∙ ap (glanced val) (sym e) }
+  pub scan_ok : {a : A} {v : ℕ} → glance s p c ≡ ok a d → v ≡ val a → Scans s p c val (Ok (v, d))
+  scan_ok e q = record { told = ap (λ (n : ℕ). Ok (n, d)) q ∙ ap (glanced val) (sym e) }
 
-  pub scan_no : {m : ℕ} → glance s p c ≡ no m d → Scans s p c val (No m d)
+  pub scan_no : {m : ℕ} → glance s p c ≡ no m d → Scans s p c val (Err (m, d))
   scan_no e = record { told = ap (glanced val) (sym e) }
 
 -- a refusal, whatever number a good walk would hand back
-pub dropped_no : {A : Type 0} {s : List ℕ} {p : Grammar A} {c d : Cursor} {val num : A → ℕ} {r : Scan} {m : ℕ} → Scans s p c val r → r ≡ No m d
-    → Scans s p c num (No m d)
+pub dropped_no : {A : Type 0} {s : List ℕ} {p : Grammar A} {c d : Cursor} {val num : A → ℕ} {r : Scan} {m : ℕ} → Scans s p c val r → r ≡ Err (m, d)
+    → Scans s p c num (Err (m, d))
 dropped_no walk e = scan_no (refused walk e)

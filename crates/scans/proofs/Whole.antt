@@ -1,4 +1,5 @@
 -- A whole book: its rules are walked with the arities that its signature tells.
+use Rattle.std.specs.Prelude.{Ok, Err}
 use Prim.Native.Nat.{ℕ}
 use mathlib.Core.Path.{◌≡◌, refl, sym, ◌∙◌, ap, subst}
 use mathlib.Core.List.{List, []}
@@ -16,8 +17,7 @@ use Rattle.terms.specs.Arity.{arity_at}
 use Rattle.terms.specs.Values.{nothing}
 use Rattle.books.specs.Counts.{noted, how_many_rules, rules_of_book}
 use Rattle.books.proofs.Lookup.{arity_known}
-use Rattle.scans.specs.declared.Scan.{Scan}
-use Rattle.scans.specs.declared.Scan.TheVariants.{On, No}
+use Rattle.scans.specs.Glance.{Scan}
 use Rattle.scans.specs.Glance.{Glance, first_bit, glance, Scans}
 use Rattle.scans.specs.Glance.Glance.{ok, no}
 use Rattle.scans.specs.Counts.{Counted, CountedBook}
@@ -30,14 +30,14 @@ known s ars d e =
     arity_known s [] false [] [] ars _ (run_ok (source s []) a_signature (start false) [] [] x.1)
 
 module _ (s : List ℕ) {d : Cursor} {r : Scan} (first : Scans s a_signature first_bit nothing r) where
-  pub book_on : {v : ℕ} {r₂ : Scan} → r ≡ On v d → Scans s (a_rule_list (λ f. arity_at s [] false f)) d how_many_rules r₂
+  pub book_on : {v : ℕ} {r₂ : Scan} → r ≡ Ok (v, d) → Scans s (a_rule_list (λ f. arity_at s [] false f)) d how_many_rules r₂
       → Scans s a_book first_bit rules_of_book r₂
   unfolding a_book
   book_on {v} {r₂} e second =
       seq_found first _ e
       (λ ars n q. seq_last _ (λ rs. refl) (subst (λ ar. Scans s (a_rule_list ar) d how_many_rules r₂) (known s ars d q) second))
 
-  pub book_counted : {v : ℕ} {cs after : List ℕ} → r ≡ On v d → Counted s (a_rule_list (λ f. arity_at s [] false f)) d 0 cs after
+  pub book_counted : {v : ℕ} {cs after : List ℕ} → r ≡ Ok (v, d) → Counted s (a_rule_list (λ f. arity_at s [] false f)) d 0 cs after
       → CountedBook s cs after
   unfolding a_book go_on
   book_counted {v} {cs} {after} e rest =
@@ -62,7 +62,7 @@ module _ (s : List ℕ) {d : Cursor} {r : Scan} (first : Scans s a_signature fir
           same e = unfold glance in cc e
       last ars k b f (no m g) h q = let z : ◌≡◌ {A = ℕ} 0 1 = cc in absurd (omega arith)
 
-  pub book_uncounted : {m : ℕ} {cs : List ℕ} → r ≡ No m d → CountedBook s cs cs
+  pub book_uncounted : {m : ℕ} {cs : List ℕ} → r ≡ Err (m, d) → CountedBook s cs cs
   unfolding a_book go_on
   book_uncounted {m} e = record {
     all = λ b f q.

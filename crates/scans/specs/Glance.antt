@@ -1,13 +1,10 @@
 -- A walk by bits alone: what a grammar finds in a file's bytes from a cursor on. Nothing is counted, and nothing is handed out.
-use Rattle.std.specs.Prelude.{ℕ, ◌+◌, ◌≡◌, List, cond}
+use Rattle.std.specs.Prelude.{ℕ, ◌+◌, ◌≡◌, List, cond, Ok, Err}
 use Rattle.bits.specs.declared.Cursor.{Cursor}
-use Rattle.fields.specs.declared.Field.{Field}
-use Rattle.fields.specs.declared.Field.TheVariants.{Bad}
+use Rattle.fields.specs.Source.{Field}
 use Rattle.fields.specs.Source.{packed_field}
 use Rattle.fields.specs.Kinds.{FieldKind, Range, bits, test, spent, Bounded}
 use Rattle.fields.specs.Grammar.{Grammar, done, ask, field, on_field, tested}
-use Rattle.scans.specs.declared.Scan.{Scan}
-use Rattle.scans.specs.declared.Scan.TheVariants.{On, No}
 
 -- a tree and the cursor past it, or the number of the first refusal and the cursor where it is given
 pub data Glance (A : Type 0) : Type 0 where
@@ -24,7 +21,7 @@ past k c = record { at = c.at + bits k }
 
 -- what the bytes have at a cursor for a field; 6 is "found before its tag is read"
 abbrev pub field_in_bytes : List ℕ → FieldKind → Range → Cursor → Field
-field_in_bytes s k r c = cond (spent r) (Bad 6) (packed_field s (bits k) c.at)
+field_in_bytes s k r c = cond (spent r) (Err 6) (packed_field s (bits k) c.at)
 
 unfoldable pub glance : {A : Type 0} → List ℕ → Grammar A → Cursor → Glance A
 glance s (done a) c = ok a c
@@ -33,8 +30,8 @@ glance s (ask k r next) c =
 
 -- what the code shows of it: of a tree only a number
 abbrev pub glanced : {A : Type 0} → (A → ℕ) → Glance A → Scan
-glanced val (ok a d) = On (val a) d
-glanced val (no m d) = No m d
+glanced val (ok a d) = Ok (val a, d)
+glanced val (no m d) = Err (m, d)
 
 -- a walk over p that began at c came to r
 pub record Scans {A : Type 0} (s : List ℕ) (p : Grammar A) (c : Cursor) (val : A → ℕ) (r : Scan) : Type 0 where

@@ -1,5 +1,5 @@
 -- What the head of a node comes to, read from one view of the file's bytes: where the node is refused or ends, or what is asked for behind it.
-use Rattle.std.specs.Prelude.{ℕ, ◌+◌, ◌-◌, ◌≤◌, ◌≡◌, ◌≢◌, List}
+use Rattle.std.specs.Prelude.{ℕ, ◌+◌, ◌-◌, ◌≤◌, ◌≡◌, ◌≢◌, List, Ok, Err}
 use Rattle.bits.specs.Bits.{room_of}
 use Rattle.bits.specs.View.{Views}
 use Rattle.bits.specs.declared.Cursor.{Cursor}
@@ -8,16 +8,15 @@ use Rattle.fields.specs.Kinds.{FieldKind as kind}
 use Rattle.fields.specs.Grammar.{Grammar, bind, field}
 use Rattle.grammar.specs.Terms.{Grown, args_of, an_applied, a_raised, a_node}
 use Rattle.terms.specs.Values.{left_of, left_of_all}
-use Rattle.scans.specs.declared.Scan.{Scan}
-use Rattle.scans.specs.declared.Scan.TheVariants.{On, No}
+use Rattle.scans.specs.Glance.{Scan}
 use Rattle.scans.specs.declared.heads.Head.{Head}
 use Rattle.scans.specs.declared.heads.Head.TheVariants.{Leaf, Applied, Raised, Bad}
 use Rattle.scans.specs.Glance.{Scans}
 
 -- p asks at c for a node, or for what is behind its tag; `term above left` asks for a term below the node, and `rest` nodes are allowed there
 pub data Heading (s : List ℕ) (p : Grammar Grown) (c : Cursor) (term : ℕ → ℕ → Grammar Grown) (rest : ℕ) : Head → Type 0 where
-  refused : {m : ℕ} {d : Cursor} → Scans s p c left_of (No m d) → Heading s p c term rest (Bad m d)
-  variable : {d : Cursor} → Scans s p c left_of (On rest d) → Heading s p c term rest (Leaf d)
+  refused : {m : ℕ} {d : Cursor} → Scans s p c left_of (Err (m, d)) → Heading s p c term rest (Bad m d)
+  variable : {d : Cursor} → Scans s p c left_of (Ok (rest, d)) → Heading s p c term rest (Leaf d)
   -- what the arguments come to, the whole comes to
   applied : {n : ℕ} {d : Cursor} → n ≤ 8 → ((x : Scan) → Scans s (args_of (term 256) n rest) d left_of_all x → Scans s p c left_of x)
       → Heading s p c term rest (Applied n d)

@@ -1,10 +1,10 @@
 -- The cases of the grammar of fillings, as the code meets them.
+use Rattle.std.specs.Prelude.{Ok}
 use Prim.Native.Nat.{ℕ, ◌+◌, ◌<◌}
 use mathlib.Core.Path.{◌≡◌, refl}
 use mathlib.Core.List.{List, [], ◌∷◌}
 use Rattle.fields.specs.declared.Walker.{Walker}
-use Rattle.fields.specs.declared.Walk.{Walk}
-use Rattle.fields.specs.declared.Walk.TheVariants.{On}
+use Rattle.fields.specs.Source.{Walk}
 use Rattle.fields.specs.Source.{Source}
 use Rattle.fields.specs.Kinds.{from_to}
 use Rattle.fields.specs.Kinds.{FieldKind as kind}
@@ -21,7 +21,7 @@ pairs_rounds ar = record { none = λ least. refl; more = λ n least. refl }
 
 -- a variable in a file is below 64
 pub pair_small : {src : Source} (ar : ℕ → ℕ) (least : ℕ) {c d : Walker} {ws bs ws₁ bs₁ : List ℕ} {r : Walk} {x : ℕ}
-    → Ran src (a_pair ar least) c ws bs first_of r ws₁ bs₁ → r ≡ On x d → x < 64
+    → Ran src (a_pair ar least) c ws bs first_of r ws₁ bs₁ → r ≡ Ok (x, d) → x < 64
 unfolding a_pair Always
 pair_small ar least h e =
     always_handed h e (λ k. k < 64)

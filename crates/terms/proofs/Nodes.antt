@@ -1,4 +1,5 @@
 -- The cases of the grammar of terms, as the code meets them, and that the allowance falls.
+use Rattle.std.specs.Prelude.{Ok, Err}
 use Prim.Native.Nat.{ℕ, zero, suc, ◌-◌, ◌≤◌}
 use mathlib.Core.Path.{◌≡◌, refl}
 use mathlib.Core.List.{List}
@@ -9,8 +10,7 @@ use native.Mathlib.Omega.{arith}
 use borrow.Author.Tests.{eq-eqb, ne_eqb}
 use lib.Dec.{eqb}
 use Rattle.fields.specs.declared.Walker.{Walker}
-use Rattle.fields.specs.declared.Walk.{Walk}
-use Rattle.fields.specs.declared.Walk.TheVariants.{On, No}
+use Rattle.fields.specs.Source.{Walk}
 use Rattle.fields.specs.Source.{Source}
 use Rattle.patterns.specs.Term.{nil, cons}
 use Rattle.fields.specs.Kinds.{any, node}
@@ -24,11 +24,11 @@ use Rattle.grammar.specs.Terms.{Grown, GrownAll, a_symbol, a_raise, a_variable, 
 use Rattle.terms.specs.Values.{left_of}
 
 module _ {src : Source} (deep : ℕ) (ar : ℕ → ℕ) (end least above left : ℕ) {c : Walker} {ws bs : List ℕ} where
-  pub term_none : left ≡ 0 → Ran src (a_term deep ar end least above left) c ws bs left_of (No 6 c) ws bs
+  pub term_none : left ≡ 0 → Ran src (a_term deep ar end least above left) c ws bs left_of (Err (6, c)) ws bs
   unfolding a_term bind field
   term_none h = go deep
     where
-      go : (deep : ℕ) → Ran src (a_term deep ar end least above left) c ws bs left_of (No 6 c) ws bs
+      go : (deep : ℕ) → Ran src (a_term deep ar end least above left) c ws bs left_of (Err (6, c)) ws bs
       go zero = ran_spent kind.tag (node least 0) _ c ws bs refl
       go (suc deep) = ran_spent kind.tag (node least left) _ c ws bs (eq-eqb left 0 h)
 
@@ -109,5 +109,5 @@ term_falls (suc deep) ar end least above left =
     (node_falls (λ s k. a_term deep ar end 0 s k) (λ s k. term_falls deep ar end 0 s k) ar end above (left - 1) n))
 
 pub term_left : {src : Source} (deep : ℕ) (ar : ℕ → ℕ) (end least above left : ℕ) {c d : Walker} {ws bs ws₁ bs₁ : List ℕ}
-    {r : Walk} {k : ℕ} → Ran src (a_term deep ar end least above left) c ws bs left_of r ws₁ bs₁ → r ≡ On k d → k ≤ left
+    {r : Walk} {k : ℕ} → Ran src (a_term deep ar end least above left) c ws bs left_of r ws₁ bs₁ → r ≡ Ok (k, d) → k ≤ left
 term_left deep ar end least above left h e = always_handed h e (λ n. n ≤ left) (term_falls deep ar end least above left)

@@ -1,4 +1,5 @@
 -- The tests of symbols, and the look-up of arities.
+use Rattle.std.specs.Prelude.{Ok, Err}
 use Prim.Native.Nat.{ℕ, ◌+◌, ◌*◌, ◌<◌, ◌≤◌}
 use mathlib.Core.Path.{◌≡◌, refl, sym, ◌∙◌, ap}
 use mathlib.Core.List.{List}
@@ -7,10 +8,8 @@ use mathlib.Core.Option.{none}
 use mathlib.Core.Logic.{◌≢◌}
 use borrow.Author.Tests.{eq-eqb, ne_eqb, le-leb, lt-leb, lt-ltb, le-ltb}
 use Rattle.fields.specs.declared.Walker.{Walker}
-use Rattle.fields.specs.declared.Field.{Field}
-use Rattle.fields.specs.declared.Field.TheVariants.{Got, Bad}
-use Rattle.fields.specs.declared.Walk.{Walk}
-use Rattle.fields.specs.declared.Walk.TheVariants.{On, No}
+use Rattle.fields.specs.Source.{Field}
+use Rattle.fields.specs.Source.{Walk}
 use Rattle.fields.specs.Source.{Source, field_at, moved, start}
 use Rattle.fields.specs.Run.{Ran}
 use Rattle.fields.specs.Grammar.{on_field}
@@ -45,39 +44,39 @@ module _ (s l : List ℕ) (listed : Bool) (f : ℕ) {n : ℕ} {c : Walker} (firs
 
 -- what the code finds at a symbol: `x` stands at the walker, and `n` is the arity of the symbol v there
 module _ (src : Source) (ar : ℕ → ℕ) {c : Walker} {ws bs : List ℕ} {x : Field} (g : x ≡ src 8 c) where
-  pub symbol_bad : (m : ℕ) → x ≡ Bad m → Ran src (a_symbol ar) c ws bs ar (No m c) ws bs
+  pub symbol_bad : (m : ℕ) → x ≡ Err m → Ran src (a_symbol ar) c ws bs ar (Err (m, c)) ws bs
   unfolding a_symbol
   symbol_bad m e = field_bad kind.symbol (applied ar) m g e
 
-  pub unary_bad : (above m : ℕ) → x ≡ Bad m → Ran src (a_unary ar above) c ws bs (λ v. v) (No m c) ws bs
+  pub unary_bad : (above m : ℕ) → x ≡ Err m → Ran src (a_unary ar above) c ws bs (λ v. v) (Err (m, c)) ws bs
   unfolding a_unary
   unary_bad above m e = field_bad kind.power_symbol (unary ar above) m g e
 
-  module _ (v : ℕ) {n : ℕ} (e : x ≡ Got v) (found : n ≡ ar v) where
-    pub symbol_unary : n ≡ 1 → Ran src (a_symbol ar) c ws bs ar (No 4 c) ws bs
+  module _ (v : ℕ) {n : ℕ} (e : x ≡ Ok v) (found : n ≡ ar v) where
+    pub symbol_unary : n ≡ 1 → Ran src (a_symbol ar) c ws bs ar (Err (4, c)) ws bs
     unfolding a_symbol
     symbol_unary h = field_refused kind.symbol (applied ar) v 4 g e (rw (← found, eq-eqb n 1 h))
 
-    pub symbol_missing : n ≢ 1 → 8 < n → Ran src (a_symbol ar) c ws bs ar (No 4 c) ws bs
+    pub symbol_missing : n ≢ 1 → 8 < n → Ran src (a_symbol ar) c ws bs ar (Err (4, c)) ws bs
     unfolding a_symbol
     symbol_missing h k = field_refused kind.symbol (applied ar) v 4 g e (rw (← found, ne_eqb n 1 h, lt-leb n 8 k))
 
     pub symbol_in : {d : Walker} {ws₁ bs₁ : List ℕ} → n ≢ 1 → n ≤ 8 → d ≡ moved 8 c → ws₁ ≡ set ws c.n v → bs₁ ≡ put_field bs 8 v c.bit
-        → Ran src (a_symbol ar) c ws bs ar (On n d) ws₁ bs₁
+        → Ran src (a_symbol ar) c ws bs ar (Ok (n, d)) ws₁ bs₁
     unfolding a_symbol
     symbol_in h k p q s = field_in kind.symbol (applied ar) v g e (rw (← found, ne_eqb n 1 h, le-leb n 8 k)) found p q s
 
     module _ (above : ℕ) where
-      pub unary_not : n ≢ 1 → Ran src (a_unary ar above) c ws bs (λ v. v) (No 4 c) ws bs
+      pub unary_not : n ≢ 1 → Ran src (a_unary ar above) c ws bs (λ v. v) (Err (4, c)) ws bs
       unfolding a_unary
       unary_not h = field_refused kind.power_symbol (unary ar above) v 4 g e (rw (← found, ne_eqb n 1 h))
 
-      pub unary_like : n ≡ 1 → v ≡ above → Ran src (a_unary ar above) c ws bs (λ v. v) (No 5 c) ws bs
+      pub unary_like : n ≡ 1 → v ≡ above → Ran src (a_unary ar above) c ws bs (λ v. v) (Err (5, c)) ws bs
       unfolding a_unary
       unary_like h k = field_refused kind.power_symbol (unary ar above) v 5 g e (rw (← found, eq-eqb n 1 h, eq-eqb v above k))
 
       pub unary_in : {d : Walker} {ws₁ bs₁ : List ℕ} → n ≡ 1 → v ≢ above → d ≡ moved 8 c → ws₁ ≡ set ws c.n v → bs₁ ≡ put_field bs 8 v c.bit
-          → Ran src (a_unary ar above) c ws bs (λ v. v) (On v d) ws₁ bs₁
+          → Ran src (a_unary ar above) c ws bs (λ v. v) (Ok (v, d)) ws₁ bs₁
       unfolding a_unary
       unary_in h k p q s =
           field_in kind.power_symbol (unary ar above) v g e (rw (← found, eq-eqb n 1 h, ne_eqb v above k)) refl p q s
@@ -88,6 +87,6 @@ unfolding InRange
 symbol_small ar f e = ((passes_exactly (applied ar) f).0 e).1.1
 
 pub symbol_few : {src : Source} (ar : ℕ → ℕ) {c d : Walker} {ws bs ws₁ bs₁ : List ℕ} {r : Walk} {n : ℕ}
-    → Ran src (a_symbol ar) c ws bs ar r ws₁ bs₁ → r ≡ On n d → n ≤ 8
+    → Ran src (a_symbol ar) c ws bs ar r ws₁ bs₁ → r ≡ Ok (n, d) → n ≤ 8
 unfolding a_symbol field Always
 symbol_few ar h e = always_handed h e (λ k. k ≤ 8) (λ f t. symbol_small ar f t)

@@ -1,4 +1,5 @@
 -- The cases of the grammar of uses and stops, as the code meets them.
+use Rattle.std.specs.Prelude.{Ok}
 use Prim.Native.Nat.{ℕ, ◌-◌}
 use mathlib.Core.Path.{◌≡◌, refl}
 use mathlib.Core.List.{List}
@@ -7,8 +8,7 @@ use mathlib.Core.Logic.{◌≢◌}
 use borrow.Author.Tests.{eq-eqb, ne_eqb}
 use Rattle.patterns.specs.Certificate.{fact, call}
 use Rattle.fields.specs.declared.Walker.{Walker}
-use Rattle.fields.specs.declared.Walk.{Walk}
-use Rattle.fields.specs.declared.Walk.TheVariants.{On}
+use Rattle.fields.specs.Source.{Walk}
 use Rattle.fields.specs.Source.{Source}
 use Rattle.fields.specs.Grammar.{done, bind}
 use Rattle.fields.specs.Run.{Ran}
@@ -35,7 +35,7 @@ unfolding uses_of
 uses_many ar line = record { none = λ x. refl; more = λ n x. refl }
 
 module _ {src : Source} (ar : ℕ → ℕ) (line n : ℕ) {c : Walker} {ws bs : List ℕ} where
-  pub stop_none : n ≡ 0 → Ran src (a_stop ar line n) c ws bs nothing (On 0 c) ws bs
+  pub stop_none : n ≡ 0 → Ran src (a_stop ar line n) c ws bs nothing (Ok (0, c)) ws bs
   unfolding a_stop
   stop_none h = rw (at_none (a_stop ar line) fact refl n h) (ran_done _ c ws bs)
 
