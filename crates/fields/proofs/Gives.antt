@@ -1,5 +1,5 @@
 -- Which fields a source gives one after the other: for bytes those that stand in them, for a list those whose values stand in it.
-use Rattle.std.specs.Prelude.{Ok, Err, Some, None}
+use Rattle.std.specs.Prelude.{Ok, Err, Some, None, IfOk}
 use mathlib.Core.Path.{◌≡◌, refl, sym, ap, ap₂, ◌∙◌}
 use mathlib.Core.List.{List, [], ◌∷◌}
 use mathlib.Core.Bool.{Bool, true, false, cond}
@@ -59,6 +59,14 @@ module _ (s l : List ℕ) (w : ℕ) (c : Walker) where
       go : (b : Bool) → c.listed ≡ b → v < 2 ^ w
       go true h = (got_listed v h e).2
       go false h = rw (got_packed v h e).0 at (bits_lt s c.bit w)
+
+  -- the same of whatever stands there
+  pub found_small : {f : Field} → f ≡ field_at s l w c → IfOk f (λ v. v < 2 ^ w)
+  found_small {f} = go f
+    where
+      go : (f : Field) → f ≡ field_at s l w c → IfOk f (λ v. v < 2 ^ w)
+      go (Ok v) e = got_small v (sym e)
+      go (Err m) e = tt
 
   packed_gives : (v : ℕ) → Near w c → c.listed ≡ false → bits_at s c.bit w ≡ v → c.bit + w ≤ room_of s → field_at s l w c ≡ Ok v
   packed_gives v h b e r = from_bytes h b ∙ ap of_bits (read_yes s w c.bit h.narrow r) ∙ ap Ok e

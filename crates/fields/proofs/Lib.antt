@@ -3,6 +3,8 @@ pub mod Sources
 pub mod Ranges
 pub mod Runs
 pub mod Seqs
+pub mod Alongs
+pub mod Copies
 pub mod Ways
 pub mod Binds
 pub mod Sinks

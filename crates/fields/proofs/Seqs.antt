@@ -45,31 +45,26 @@ module _ {A B : Type 0} (src : Source) (f : A → Grammar B) where
 -- ---- what a walk shows of a result
 
 module _ {A : Type 0} (val : A → ℕ) (d : Walker) (ws bs : List ℕ) where
-  shown_on : (x : Result A) (v : ℕ) → record { walk = Ok (v, d); words = ws; bytes = bs } ≡ shown val x
-      → (a : A) × (val a ≡ v) × (x ≡ ok a (state d ws bs))
+  abbrev showing : Walk → Shown
+  showing r = record { walk = r; words = ws; bytes = bs }
+
+  shown_on : (x : Result A) (v : ℕ) → showing (Ok (v, d)) ≡ shown val x → (a : A) × (val a ≡ v) × (x ≡ ok a (state d ws bs))
   shown_on (ok a σ) v p =
       let q = ap (λ (s : Shown). s.walk) p in
-      (a, cc q, λ i. ok a (record { cursor = (cursor q) (i); words = (ap (λ (s : Shown). s.words) (sym p)) i; bytes = (ap (λ (s : Shown). s.bytes) (sym p)) i }))
-    where
-      cursor : Ok (v, d) ≡ Ok (val a, σ.cursor) → σ.cursor ≡ d
-      cursor q = cc
+      let t : ◌≡◌ {A = ℕ × Walker} (v, d) (val a, σ.cursor) = cc q in
+      (a, sym (ap (λ (u : ℕ × Walker). u.0) t), λ i. ok a (record { cursor = (sym (ap (λ (u : ℕ × Walker). u.1) t)) (i); words = (ap (λ (s : Shown). s.words) (sym p)) i; bytes = (ap (λ (s : Shown). s.bytes) (sym p)) i }))
   shown_on (no m σ) v p =
       let q = ap (λ (s : Shown). s.walk) p in
       let z : ◌≡◌ {A = ℕ} 0 1 = cc q in absurd (omega arith)
 
-  shown_no : (x : Result A) (m : ℕ) → record { walk = Err (m, d); words = ws; bytes = bs } ≡ shown val x → x ≡ no m (state d ws bs)
+  shown_no : (x : Result A) (m : ℕ) → showing (Err (m, d)) ≡ shown val x → x ≡ no m (state d ws bs)
   shown_no (ok a σ) m p =
       let q = ap (λ (s : Shown). s.walk) p in
       let z : ◌≡◌ {A = ℕ} 0 1 = cc q in absurd (omega arith)
   shown_no (no k σ) m p =
       let q = ap (λ (s : Shown). s.walk) p in
-      λ i. no (number q i) (record { cursor = (cursor q) (i); words = (ap (λ (s : Shown). s.words) (sym p)) i; bytes = (ap (λ (s : Shown). s.bytes) (sym p)) i })
-    where
-      number : Err (m, d) ≡ Err (k, σ.cursor) → k ≡ m
-      number q = cc
-
-      cursor : Err (m, d) ≡ Err (k, σ.cursor) → σ.cursor ≡ d
-      cursor q = cc
+      let t : ◌≡◌ {A = ℕ × Walker} (m, d) (k, σ.cursor) = cc q in
+      λ i. no (sym (ap (λ (u : ℕ × Walker). u.0) t) i) (record { cursor = (sym (ap (λ (u : ℕ × Walker). u.1) t)) (i); words = (ap (λ (s : Shown). s.words) (sym p)) i; bytes = (ap (λ (s : Shown). s.bytes) (sym p)) i })
 
 -- ---- two walks
 

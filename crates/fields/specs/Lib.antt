@@ -4,5 +4,7 @@ pub mod Kinds
 pub mod Grammar
 pub mod Asks
 pub mod Run
+pub mod Along
+pub mod Copying
 pub mod Spells
 pub mod Faults

@@ -1,8 +1,16 @@
 -- Where fields come from: bytes, in which they are packed, or a list of numbers, one for each field.
-use Rattle.std.specs.Prelude.{ℕ, ◌+◌, ◌^◌, List, Bool, ◌&&◌, cond, length, get_or, ltb, leb, Ok, Err, Some, None}
+use Rattle.std.specs.Prelude.{ℕ, ◌+◌, ◌^◌, List, Bool, ◌&&◌, cond, length, get_or, ltb, leb, Result, Ok, Err, Some, None}
 use Rattle.bits.specs.Bits.{read_field}
 use Rattle.bits.specs.Bits.{Taken as Bits}
 use Rattle.fields.specs.declared.Walker.{Walker}
+
+-- what stands at a place: a field's value, or the number of its refusal
+abbrev pub Field : Type 0
+Field = Result ℕ ℕ
+
+-- what a walk comes to: a value and the walker past it, or the number of a refusal and the walker where it is given
+abbrev pub Walk : Type 0
+Walk = Result (ℕ × Walker) (ℕ × Walker)
 
 -- 01, 4: "too wide when writing"; 3: "a field begins or runs past the end"
 unfoldable pub listed_field : List ℕ → ℕ → ℕ → Field

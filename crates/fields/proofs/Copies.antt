@@ -1,0 +1,71 @@
+-- A copier's walk is the run of the grammar over its source, with its outputs.
+use Rattle.std.specs.Prelude.{Result as Either, Ok, Err}
+use Prim.Native.Nat.{ℕ}
+use mathlib.Core.Path.{◌≡◌, refl, sym, ap, ◌∙◌}
+use mathlib.Core.Option.{Option, none, some}
+use Rattle.fields.specs.declared.copier.Copier.{Copier}
+use Rattle.fields.specs.declared.Walker.{Walker}
+use Rattle.fields.specs.Source.{Field, Walk, source}
+use Rattle.fields.specs.Kinds.{bits, test}
+use Rattle.fields.specs.Grammar.{Grammar, done, ask, on_field, tested}
+use Rattle.fields.specs.Run.{State, state, Result, run, Shown, Ran}
+use Rattle.fields.specs.Run.{shown as shown_run}
+use Rattle.fields.specs.Run.Result.{ok as ok_run, no as no_run}
+use Rattle.fields.specs.Along.{End, asked, along, shown, told_at, Comes}
+use Rattle.fields.specs.Along.End.{ok, no}
+use Rattle.fields.specs.Copying.{copying, copied}
+
+-- where a copier stands, with its outputs
+abbrev pub state_of : Copier → State
+state_of x = state x.at x.words.now x.bytes.now
+
+-- what a copier's walk ends in, of its source and its outputs
+unfoldable pub of_end : {A : Type 0} → End A Copier → Result A
+of_end (ok a y) = ok_run a (state_of y)
+of_end (no m y) = no_run m (state_of y)
+
+pub same_run : {A : Type 0} (p : Grammar A) (x : Copier) → of_end (along copying p x) ≡ run (source x.s.now x.l.now) p (state_of x)
+unfolding along run of_end
+same_run (done a) x = refl
+same_run {A} (ask k r next) x = go (λ v. same_run (next v) (copied (bits k) v x)) (asked copying k r x)
+  where
+    under : (v : ℕ) → of_end (along copying (next v) (copied (bits k) v x)) ≡ run (source x.s.now x.l.now) (next v) (state_of (copied (bits k) v x))
+        → (o : Option ℕ)
+        → of_end (tested o (along copying (next v) (copied (bits k) v x)) (λ m. no m x))
+        ≡ tested o (run (source x.s.now x.l.now) (next v) (state_of (copied (bits k) v x))) (λ m. no_run m (state_of x))
+    under v e none = e
+    under v e (some m) = refl
+
+    go : ((v : ℕ) → of_end (along copying (next v) (copied (bits k) v x)) ≡ run (source x.s.now x.l.now) (next v) (state_of (copied (bits k) v x)))
+        → (f : Field)
+        → of_end (on_field f (λ v. tested (test r v) (along copying (next v) (copied (bits k) v x)) (λ m. no m x)) (λ m. no m x))
+        ≡ on_field f (λ v. tested (test r v) (run (source x.s.now x.l.now) (next v) (state_of (copied (bits k) v x))) (λ m. no_run m (state_of x)))
+        (λ m. no_run m (state_of x))
+    go ih (Ok v) = under v (ih v) (test r v)
+    go ih (Err m) = refl
+
+-- what a walk comes to, with the place where it stands
+abbrev pub walk_of : Either ℕ ℕ → Walker → Walk
+walk_of (Ok v) c = Ok (v, c)
+walk_of (Err m) c = Err (m, c)
+
+unfoldable showing : End ℕ Copier → Shown
+showing (ok v y) = record { walk = Ok (v, y.at); words = y.words.now; bytes = y.bytes.now }
+showing (no m y) = record { walk = Err (m, y.at); words = y.words.now; bytes = y.bytes.now }
+
+showing_told : (r : Either ℕ ℕ) (y : Copier) → showing (told_at r y) ≡ record { walk = walk_of r y.at; words = y.words.now; bytes = y.bytes.now }
+unfolding showing told_at
+showing_told (Ok v) y = refl
+showing_told (Err m) y = refl
+
+showing_shown : {A : Type 0} (val : A → ℕ) (e : End A Copier) → showing (shown val e) ≡ shown_run val (of_end e)
+unfolding showing shown of_end
+showing_shown val (ok a y) = refl
+showing_shown val (no m y) = refl
+
+-- so it meets what a run is held to
+pub copier_ran : {A : Type 0} {p : Grammar A} {x y : Copier} {val : A → ℕ} {r : Either ℕ ℕ} → Comes copying p x val r y
+    → Ran (source x.s.now x.l.now) p x.at x.words.now x.bytes.now val (walk_of r y.at) y.words.now y.bytes.now
+copier_ran {p = p} {x = x} {y = y} {val = val} {r = r} h = record {
+  told = sym (showing_told r y) ∙ ap showing h.told ∙ showing_shown val (along copying p x) ∙ ap (shown_run val) (same_run p x);
+}
