@@ -5,6 +5,8 @@ pub mod Runs
 pub mod Seqs
 pub mod Alongs
 pub mod Copies
+pub mod AlongAlways
+pub mod AlongRounds
 pub mod Ways
 pub mod Binds
 pub mod Sinks
