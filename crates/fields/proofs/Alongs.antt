@@ -143,25 +143,24 @@ module _ {A V S : Type 0} {st : Steps S} {p : Grammar A} {x y : S} {val : A → 
 
 -- ---- a field
 
-module _ {S : Type 0} {st : Steps S} (k : FieldKind) (r : Range) {x : S} (allowed : spent r ≡ false) where
-  pub field_no : {m n : ℕ} → st.at (bits k) x ≡ Err m → n ≡ m → Comes st (field k r) x (λ v. v) (Err n) x
+module _ {V S : Type 0} {st : Steps S} (k : FieldKind) (r : Range) {val : ℕ → V} {x : S} (allowed : spent r ≡ false) where
+  pub field_no : {m : ℕ} {q : Result V ℕ} → st.at (bits k) x ≡ Err m → q ≡ Err m → Comes st (field k r) x val q x
   unfolding field along told_at shown
-  field_no e q = record { told = rw (allowed, e, q) }
+  field_no e t = rw t (record { told = rw (allowed, e) })
 
-  pub field_refused : {v m : ℕ} → st.at (bits k) x ≡ Ok v → test r v ≡ some m → Comes st (field k r) x (λ v. v) (Err m) x
+  pub field_refused : {v m : ℕ} → st.at (bits k) x ≡ Ok v → test r v ≡ some m → Comes st (field k r) x val (Err m) x
   unfolding field along told_at shown
   field_refused e t = record { told = rw (allowed, e, t) }
 
-  pub field_in : {v : ℕ} {y : S} → st.at (bits k) x ≡ Ok v → test r v ≡ none → y ≡ st.past (bits k) v x → Comes st (field k r) x (λ v. v) (Ok v) y
+  pub field_in : {v : ℕ} {q : V} {y : S} → st.at (bits k) x ≡ Ok v → test r v ≡ none → q ≡ val v → y ≡ st.past (bits k) v x → Comes st (field k r) x val (Ok q) y
   unfolding field along told_at shown
-  field_in {v} e t p = record { told = rw (allowed, e, t) (λ i. ok v (p i)) }
+  field_in {v} e t n p = record { told = rw (allowed, e, t) (λ i. ok (n i) (p i)) }
 
 here : {S : Type 0} (st : Steps S) {w : ℕ} {x : S} {f h : Field} → f ≡ st.at w x → f ≡ h → (k : FieldKind) → bits k ≡ w → st.at (bits k) x ≡ h
 here st {x = x} g e k q = ap (λ n. st.at n x) q ∙ sym g ∙ e
 
 -- a field whose range is told by two bounds
 module _ {S : Type 0} {st : Steps S} {w least end m : ℕ} {x : S} {f : Field} (g : f ≡ st.at w x) where
-
   pub takes_no : {n : ℕ} {r : Field} → f ≡ Err n → r ≡ Err n → Takes st w least end m x r x
   takes_no e q = rw q (record { comes = λ k r b. field_no k r b.allowed (here st g e k b.wide) refl })
 
@@ -175,6 +174,6 @@ module _ {S : Type 0} {st : Steps S} {w least end m : ℕ} {x : S} {f : Field} (
     pub takes_in : {y : S} → least ≤ v → v < end → y ≡ st.past w v x → Takes st w least end m x (Ok v) y
     takes_in {y} h i p = record {
       comes = λ k r b.
-          field_in k r b.allowed (here st g e k b.wide) (b.told v small ∙ between_ok least end m v h i)
+          field_in k r b.allowed (here st g e k b.wide) (b.told v small ∙ between_ok least end m v h i) refl
           (p ∙ ap (λ n. st.past n v x) (sym b.wide));
     }

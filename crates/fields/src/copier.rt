@@ -15,7 +15,7 @@ pub struct Copier<'a> {
 }
 
 // The number at a place, if the field there has that many bits.
-fn listed_at(l: &[u16], w: usize, n: usize) -> Field
+pub fn listed_at(l: &[u16], w: usize, n: usize) -> Field
     requires { w ≤ 16 }
     ensures { result ≡ listed_field l.now w n }
 {

@@ -3,7 +3,9 @@ use Prim.Native.Nat.{ℕ, ◌+◌, ◌*◌, ◌/◌, ◌%◌, ◌^◌, ◌≤◌
 use mathlib.Core.Path.{◌≡◌, refl, sym, ap, ◌∙◌}
 use mathlib.Core.Logic.{◌⊎◌, inl, inr, ⊎_elim}
 use mathlib.Core.List.{List, []}
-use mathlib.Core.Bool.{false, cond}
+use mathlib.Core.Bool.{true, false, cond}
+use Rattle.std.specs.Prelude.{Ok, Err}
+use Rattle.std.specs.Result.{result_unwrap_or}
 use native.Mathlib.Omega.{arith}
 use borrow.Author.Tests.{lt-ltb, le-ltb}
 use lib.ListN.{length}
@@ -14,13 +16,25 @@ use Rattle.bits.proofs.Bytes.{bits_lt, byte_of_bits}
 use Rattle.bits.proofs.Fitting.{read_yes, read_past}
 use Rattle.bits.proofs.Views.{bits_append}
 use Rattle.fields.specs.declared.Walker.{Walker}
-use Rattle.fields.specs.Source.{field_at, start}
-use Rattle.fields.proofs.Sources.{field_packed}
+use Rattle.fields.specs.Source.{Field, field_at, listed_field, start}
+use Rattle.fields.specs.Grammar.{on_field}
+use Rattle.fields.proofs.Sources.{field_listed, field_packed}
+use Rattle.terms.proofs.Symbols.{number_is}
 use Rattle.terms.specs.Arity.{number_at, arity_at, NibbleOf}
 
 pub in_bytes_only : (s l : List ℕ) (f : ℕ) → arity_at s l false f ≡ arity_at s [] false f
 unfolding arity_at number_at field_at
 in_bytes_only s l f = refl
+
+-- the number at a place of a list, or another
+pub listed_number : (l : List ℕ) (w n other : ℕ) {f : Field} → w ≤ 16 → n < 2 ^ 32 → f ≡ listed_field l w n → (bit : ℕ) → bit < 2 ^ 32
+    → result_unwrap_or f other ≡ number_at [] l w (record { bit = bit; n = n; listed = true }) other
+listed_number l w n other {f} narrow few e bit close =
+    unwrapped f ∙ sym (number_is [] l w _ other (e ∙ sym (field_listed [] l w (record { bit = bit; n = n; listed = true }) narrow few close refl)))
+  where
+    unwrapped : (f : Field) → result_unwrap_or f other ≡ on_field f (λ v. v) (λ m. other)
+    unwrapped (Ok v) = refl
+    unwrapped (Err m) = refl
 
 -- ---- by bytes and halves of bytes
 

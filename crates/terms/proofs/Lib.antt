@@ -3,3 +3,6 @@ pub mod Symbols
 pub mod Nodes
 pub mod Fillings
 pub mod Arities
+pub mod AlongSymbols
+pub mod HeadsByFields
+pub mod Powers

@@ -99,7 +99,7 @@ node_falls term f ar end above left tag = go (eqb tag 0) (eqb tag 1)
         always_then (Below left) _ (a_raise ar end above)
         (λ p. always_bind (Below left) (Below left) _ (term p.0 left) (f p.0 left) (λ g h. h))
 
-term_falls : (deep : ℕ) (ar : ℕ → ℕ) (end least above left : ℕ) → Always (Below left) (a_term deep ar end least above left)
+pub term_falls : (deep : ℕ) (ar : ℕ → ℕ) (end least above left : ℕ) → Always (Below left) (a_term deep ar end least above left)
 unfolding a_term a_variable Always bind field
 term_falls zero ar end least above left = λ v t. absurd (some-ne-none 6 t)
 term_falls (suc deep) ar end least above left =

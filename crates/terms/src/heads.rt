@@ -1,127 +1,117 @@
-// The fields at the head of a node: a symbol, a power's symbol with its numbers, a variable.
+// The head of a node: its tag, and the fields that are its own.
 ghost use Rattle.std.specs.Prelude.{◌≡◌, cond, eqb};
-ghost use Rattle.fields.specs.Source.{source};
-ghost use Rattle.fields.specs.Run.{Ran};
-ghost use Rattle.terms.specs.Arity.{arity_at};
-ghost use Rattle.grammar.specs.Terms.{a_symbol, a_unary, an_exponent, a_raise, a_variable};
-ghost use Rattle.terms.specs.Values.{left_of, first_of, second_of};
+ghost use Rattle.fields.specs.Along.{Comes, silent};
+ghost use Rattle.grammar.specs.Terms.{a_symbol, a_unary, an_exponent, a_raise};
+ghost use Rattle.terms.specs.Values.{first_of};
+ghost use Rattle.terms.specs.Headings.{HeadAt};
 
-use crate::{Mode, arity};
-use fields::{Field, Walk, Walker};
+use crate::signature::Signature;
+use fields::Fields;
+use fields::copier::Copier;
+
+// What stands at the head of a node: a variable; a symbol, by its arity; or a power, by its symbol.
+#[derive(Clone, Copy)]
+pub enum Head {
+    Leaf,
+    Applied { arity: u16 },
+    Raised { symbol: u16 },
+}
+
+// What hands out the heads of nodes, besides fields.
+pub trait Heads: Fields {
+    // The head of the node that comes next, its tag from `least` on, the number a of a power below `end`, and its symbol not `above`.
+    fn head<G: Signature>(&mut self, book: G, end: u16, least: u16, above: u16) -> Result<Head, u16>
+        ensures { HeadAt Self.steps (G.arities book) end least above self.old result self.new };
+}
 
 // A symbol that takes arguments: its arity.
-pub fn symbol(
-    mode: Mode,
-    book: &[u8],
-    s: &[u8],
-    l: &[u16],
-    words: &mut [u16],
-    bytes: &mut [u8],
-    c: Walker,
-) -> Walk
-    ensures { Ran (source s.now l.now) (a_symbol (arity_at book.now l.now mode.listed)) c words.old bytes.old (arity_at book.now l.now mode.listed) result words.new bytes.new }
+fn symbol<R: Fields, G: Signature>(r: &mut R, book: G) -> Result<u16, u16>
+    ensures { Comes R.steps (a_symbol (G.arities book)) r.old (G.arities book) result r.new }
 {
-    match c.look(8, s, l) {
-        Field::Bad(m) => Walk::No(m, c),
-        Field::Got(f) => {
-            let n = arity(book, l, mode.listed, f);
-            if n == 1 {
-                return Walk::No(4, c);
-            }
-            if n > 8 {
-                return Walk::No(4, c);
-            }
-            let d = c.pass(8, f, words, bytes);
-            Walk::On(n as usize, d)
-        }
+    let f = r.look(8)?;
+    let n = book.arity(f);
+    if n == 1 {
+        return Err(4);
     }
+    if n > 8 {
+        return Err(4);
+    }
+    r.pass(8, f);
+    Ok(n)
 }
 
 // The symbol of a power, which is not the one directly above.
-fn unary(
-    mode: Mode,
-    book: &[u8],
-    s: &[u8],
-    l: &[u16],
-    words: &mut [u16],
-    bytes: &mut [u8],
-    c: Walker,
-    above: usize,
-) -> Walk
-    ensures { Ran (source s.now l.now) (a_unary (arity_at book.now l.now mode.listed) above) c words.old bytes.old (λ v. v) result words.new bytes.new }
+fn unary<R: Fields, G: Signature>(r: &mut R, book: G, above: u16) -> Result<u16, u16>
+    ensures { Comes R.steps (a_unary (G.arities book) above) r.old (λ v. v) result r.new }
 {
-    match c.look(8, s, l) {
-        Field::Bad(m) => Walk::No(m, c),
-        Field::Got(f) => {
-            let n = arity(book, l, mode.listed, f);
-            if n != 1 {
-                return Walk::No(4, c);
-            }
-            let k = f as usize;
-            if k == above {
-                return Walk::No(5, c);
-            }
-            let d = c.pass(8, f, words, bytes);
-            Walk::On(k, d)
-        }
+    let f = r.look(8)?;
+    if book.arity(f) != 1 {
+        return Err(4);
     }
+    if f == above {
+        return Err(5);
+    }
+    r.pass(8, f);
+    Ok(f)
 }
 
 // The least number that b may be beside a.
-fn least_beside(a: usize) -> u16
+fn least_beside(a: u16) -> u16
     ensures { result ≡ cond (eqb a 0) 1 0 }
 {
     if a == 0 { 1 } else { 0 }
 }
 
 // The numbers a and b of a power, not both 0.
-fn exponent(end: u16, s: &[u8], l: &[u16], words: &mut [u16], bytes: &mut [u8], c: Walker) -> Walk
-    ensures { Ran (source s.now l.now) (an_exponent end) c words.old bytes.old second_of result words.new bytes.new }
+fn exponent<R: Fields>(r: &mut R, end: u16) -> Result<(), u16>
+    ensures { Comes R.steps (an_exponent end) r.old silent result r.new }
 {
-    match c.take(12, 0, end, 4, s, l, words, bytes) {
-        Walk::No(m, d) => Walk::No(m, d),
-        Walk::On(a, d) => {
-            let least = least_beside(a);
-            d.take(12, least, 4096, 5, s, l, words, bytes)
-        }
-    }
+    let a = r.take(12, 0, end, 4)?;
+    r.take(12, least_beside(a), 4096, 5)?;
+    Ok(())
 }
 
 // A power's symbol, with its numbers.
-pub fn raise(
-    mode: Mode,
-    book: &[u8],
-    s: &[u8],
-    l: &[u16],
-    words: &mut [u16],
-    bytes: &mut [u8],
-    c: Walker,
-    above: usize,
-) -> Walk
-    ensures { Ran (source s.now l.now) (a_raise (arity_at book.now l.now mode.listed) mode.end above) c words.old bytes.old first_of result words.new bytes.new }
+fn raise<R: Fields, G: Signature>(r: &mut R, book: G, end: u16, above: u16) -> Result<u16, u16>
+    ensures { Comes R.steps (a_raise (G.arities book) end above) r.old first_of result r.new }
 {
-    match unary(mode, book, s, l, words, bytes, c, above) {
-        Walk::No(m, d) => Walk::No(m, d),
-        Walk::On(f, d) => match exponent(mode.end, s, l, words, bytes, d) {
-            Walk::No(m, e) => Walk::No(m, e),
-            Walk::On(_, e) => Walk::On(f, e),
-        },
+    let f = unary(r, book, above)?;
+    exponent(r, end)?;
+    Ok(f)
+}
+
+// The head of the node that comes next, field by field.
+pub fn head_by_fields<R: Fields, G: Signature>(
+    r: &mut R,
+    book: G,
+    end: u16,
+    least: u16,
+    above: u16,
+) -> Result<Head, u16>
+    ensures { HeadAt R.steps (G.arities book) end least above r.old result r.new }
+{
+    match r.take(2, least, 3, 4)? {
+        0 => {
+            r.take(6, 0, 64, 4)?;
+            Ok(Head::Leaf)
+        }
+        1 => Ok(Head::Applied {
+            arity: symbol(r, book)?,
+        }),
+        _ => Ok(Head::Raised {
+            symbol: raise(r, book, end, above)?,
+        }),
     }
 }
 
-// A variable, with the nodes still allowed.
-pub fn variable(
-    s: &[u8],
-    l: &[u16],
-    words: &mut [u16],
-    bytes: &mut [u8],
-    c: Walker,
-    left: usize,
-) -> Walk
-    ensures { Ran (source s.now l.now) (a_variable left) c words.old bytes.old left_of result words.new bytes.new }
-{
-    match c.take(6, 0, 64, 4, s, l, words, bytes) {
-        Walk::No(m, d) => Walk::No(m, d),
-        Walk::On(_, d) => Walk::On(left, d),
+impl Heads for Copier<'_> {
+    fn head<G: Signature>(
+        &mut self,
+        book: G,
+        end: u16,
+        least: u16,
+        above: u16,
+    ) -> Result<Head, u16> {
+        head_by_fields(self, book, end, least, above)
     }
 }

@@ -1,8 +1,8 @@
--- `terms::arity_of` meets its contract: the first byte is the count, and each arity is half a byte.
+-- `terms::signature::arity_of` meets its contract: the first byte is the count, and each arity is half a byte.
 use mathlib.Core.Path.{sym}
 use native.Mathlib.Omega.{arith}
 use Rattle.terms.proofs.Arities.{arity_beyond, arity_past, arity_there}
-use Rattle.terms.proofs.arity_of.Goals as goal
+use Rattle.terms.proofs.signature.arity_of.Goals as goal
 
 pub returns-then-k-book : goal.returns-then-k-book
 returns-then-k-book c =
