@@ -1,29 +1,25 @@
 -- The grammars of a book that ask for n things, how many calls a rule has, and what is noted of it.
-use Rattle.std.specs.Prelude.{Ok, Err}
-use Prim.Native.Nat.{ℕ, ◌+◌, ◌-◌, ◌<◌, ◌≤◌}
+use Rattle.std.specs.Prelude.{Result, Ok, Err}
+use Prim.Native.Nat.{ℕ, suc, ◌+◌, ◌<◌, ◌≤◌}
 use mathlib.Core.Path.{◌≡◌, refl, sym, ◌∙◌, ap, subst}
 use mathlib.Core.List.{List, [], ◌∷◌}
-use mathlib.Core.Logic.{◌≢◌}
 use native.Mathlib.Omega.{arith}
 use lib.ListN.{length, set}
 use Rattle.patterns.specs.First.{Exp}
 use Rattle.patterns.specs.Derive.{Rule, Book}
-use Rattle.fields.specs.declared.Walker.{Walker}
-use Rattle.fields.specs.Source.{Walk}
-use Rattle.fields.specs.Source.{Source}
 use Rattle.fields.specs.Kinds.{from_to}
 use Rattle.fields.specs.Kinds.{FieldKind as kind}
 use Rattle.fields.specs.Grammar.{Grammar, done, bind, field}
-use Rattle.fields.specs.Run.{State, state, Result, run, Ran}
-use Rattle.fields.specs.Run.Result.{ok, no}
-use Rattle.fields.proofs.Seqs.{go_on, run_bind, found, refused, ran_no}
-use Rattle.fields.proofs.Always.{Always, always_bind, always_then, always_handed, always_told, always_weaken, field_below}
-use Rattle.fields.proofs.Many.{Many, none_left, some_left, many_length}
+use Rattle.fields.specs.Along.{Steps, End, along, Comes}
+use Rattle.fields.specs.Along.End.{ok, no}
+use Rattle.fields.proofs.Alongs.{go_on, along_bind, found, refused}
+use Rattle.fields.proofs.Always.{Always, always_bind, always_then, always_weaken, field_below}
+use Rattle.fields.proofs.AlongAlways.{always_handed, always_told}
+use Rattle.fields.proofs.Many.{Many, many_length}
 use Rattle.grammar.specs.Terms.{root_term}
 use Rattle.grammar.specs.Books.{arities_of, roots_of, a_rule_of, a_rule, rules_of}
-use Rattle.terms.specs.Values.{nothing}
 use Rattle.grammar.specs.Limits.{call_counts}
-use Rattle.books.specs.Counts.{noted, calls_of, how_many_rules, Counted}
+use Rattle.books.specs.Counts.{noted, calls_of, how_many_rules, CountedAlong}
 
 pub arities_many : Many arities_of (field kind.arity (from_to 0 9)) (λ a. a)
 unfolding arities_of
@@ -45,14 +41,12 @@ rule_calls ar n =
     (λ g. always_bind (λ ts. length ts ≡ n) (λ r. calls_of r ≡ n) _ (roots_of ar n) (many_length (roots_of ar) (root_term ar) (λ g. g.term) (roots_many ar) n) (λ ts h. h))
 
 -- so the walk may hand back that number
-pub rule_counted : {src : Source} (ar : ℕ → ℕ) (n : ℕ) {c d : Walker} {ws bs ws₁ bs₁ : List ℕ} {r : Walk} {v : ℕ}
-    → Ran src (a_rule_of ar n) c ws bs nothing r ws₁ bs₁ → r ≡ Ok (v, d)
-    → Ran src (a_rule_of ar n) c ws bs calls_of (Ok (n, d)) ws₁ bs₁
+pub rule_counted : {V S : Type 0} {st : Steps S} (ar : ℕ → ℕ) (n : ℕ) {val : Rule Exp → V} {x y : S} {r : Result V ℕ} {v : V}
+    → Comes st (a_rule_of ar n) x val r y → r ≡ Ok v → Comes st (a_rule_of ar n) x calls_of (Ok n) y
 rule_counted ar n h e = always_told h e calls_of n (rule_calls ar n)
 
 -- a rule has at most 8 calls
-pub rule_few : {src : Source} (ar : ℕ → ℕ) {c d : Walker} {ws bs ws₁ bs₁ : List ℕ} {r : Walk} {n : ℕ}
-    → Ran src (a_rule ar) c ws bs calls_of r ws₁ bs₁ → r ≡ Ok (n, d) → n ≤ 8
+pub rule_few : {S : Type 0} {st : Steps S} (ar : ℕ → ℕ) {x y : S} {r : Result ℕ ℕ} {n : ℕ} → Comes st (a_rule ar) x calls_of r y → r ≡ Ok n → n ≤ 8
 unfolding a_rule
 rule_few ar h e =
     always_handed h e (λ k. k ≤ 8)
@@ -62,85 +56,77 @@ rule_few ar h e =
 -- ---- what is noted
 
 -- what the first rule and the rest come to
-rules_step : (src : Source) (ar : ℕ → ℕ) (n : ℕ) (σ : State) → n ≢ 0
-    → run src (rules_of ar n) σ ≡ go_on src (λ r. bind (rules_of ar (n - 1)) λ rs. done (r ∷ rs)) (run src (a_rule ar) σ)
-rules_step src ar n σ h = ap (λ p. run src p σ) (some_left (rules_many ar) n 0 h) ∙ run_bind src _ (a_rule ar) σ
+rules_step : {S : Type 0} (st : Steps S) (ar : ℕ → ℕ) (n m : ℕ) (x : S) → n ≡ m + 1
+    → along st (rules_of ar n) x ≡ go_on st (λ r. bind (rules_of ar m) λ rs. done (r ∷ rs)) (along st (a_rule ar) x)
+rules_step st ar n m x h =
+    ap (λ i. along st (rules_of ar i) x) (let e : n ≡ suc m = omega arith in e)
+    ∙ ap (λ p. along st p x) ((rules_many ar).more m 0) ∙ along_bind st _ (a_rule ar) x
 
-module _ {src : Source} (ar : ℕ → ℕ) (n k : ℕ) {c : Walker} {ws bs cs : List ℕ} where
-  pub counted_none : n ≡ 0 → Counted src (rules_of ar n) (state c ws bs) k cs cs
-  unfolding rules_of run noted call_counts
-  counted_none h = rw (none_left (rules_many ar) n 0 h) (record { all = λ rs τ e. rw (empty rs τ e) refl })
+module _ {S : Type 0} {st : Steps S} (ar : ℕ → ℕ) (n k : ℕ) {x : S} {cs : List ℕ} where
+  pub counted_none : n ≡ 0 → CountedAlong st (rules_of ar n) x k cs cs
+  unfolding rules_of along noted call_counts
+  counted_none h = rw h (record { all = λ rs y e. rw (empty rs y e) refl })
     where
-      empty : (rs : Book Exp) (τ : State) → ◌≡◌ {A = Result (Book Exp)} (ok [] (state c ws bs)) (ok rs τ) → rs ≡ []
-      empty rs τ e = cc
+      empty : (rs : Book Exp) (y : S) → ◌≡◌ {A = End (Book Exp) S} (ok [] x) (ok rs y) → rs ≡ []
+      empty rs y e = cc
 
-  module _ {r : Walk} {ws₁ bs₁ : List ℕ} (first : Ran src (a_rule ar) c ws bs calls_of r ws₁ bs₁) {m : ℕ} {d : Walker} (some : n ≢ 0) where
-    pub counted_no : r ≡ Err (m, d) → Counted src (rules_of ar n) (state c ws bs) k cs cs
+  module _ (m : ℕ) (some : n ≡ m + 1) {r : Result ℕ ℕ} {y : S} (first : Comes st (a_rule ar) x calls_of r y) where
+    pub counted_no : {i : ℕ} → r ≡ Err i → CountedAlong st (rules_of ar n) x k cs cs
     unfolding go_on
-    counted_no e = record { all = λ rs τ q. absurd (never rs τ (sym (rules_step src ar n (state c ws bs) some ∙ ap (go_on src _) (refused first e)) ∙ q)) }
+    counted_no {i} e = record { all = λ rs z q. absurd (never rs z (sym (rules_step st ar n m x some ∙ ap (go_on st _) (refused first e)) ∙ q)) }
       where
-        never : (rs : Book Exp) (τ : State) → ◌≡◌ {A = Result (Book Exp)} (no m (state d ws₁ bs₁)) (ok rs τ) → ⊥
-        never rs τ q = let z : ◌≡◌ {A = ℕ} 0 1 = cc in omega arith
+        never : (rs : Book Exp) (z : S) → ◌≡◌ {A = End (Book Exp) S} (no i y) (ok rs z) → ⊥
+        never rs z q = let o : ◌≡◌ {A = ℕ} 0 1 = cc in omega arith
 
-    pub counted_more : {mid after : List ℕ} → r ≡ Ok (m, d) → mid ≡ set cs k m
-        → Counted src (rules_of ar (n - 1)) (state d ws₁ bs₁) (k + 1) mid after
-        → Counted src (rules_of ar n) (state c ws bs) k cs after
+    pub counted_more : {v : ℕ} {mid after : List ℕ} → r ≡ Ok v → mid ≡ set cs k v
+        → CountedAlong st (rules_of ar m) y (k + 1) mid after
+        → CountedAlong st (rules_of ar n) x k cs after
     unfolding go_on noted call_counts
-    counted_more {mid} {after} e p rest =
-        let x = found first e in
+    counted_more {v} {mid} {after} e p rest =
+        let f = found first e in
         record {
-          all = λ rs τ q.
-              last x.0 x.1 rs τ (run src (rules_of ar (n - 1)) (state d ws₁ bs₁)) refl
-              (sym (run_bind src (λ rs. done (x.0 ∷ rs)) (rules_of ar (n - 1)) (state d ws₁ bs₁))
-              ∙ sym (rules_step src ar n (state c ws bs) some ∙ ap (go_on src _) x.2) ∙ q);
+          all = λ rs z q.
+              last f.0 f.1 rs z (along st (rules_of ar m) y) refl
+              (sym (along_bind st (λ rs. done (f.0 ∷ rs)) (rules_of ar m) y)
+              ∙ sym (rules_step st ar n m x some ∙ ap (go_on st _) f.2) ∙ q);
         }
       where
-        last : (one : Rule Exp) → calls_of one ≡ m → (rs : Book Exp) (τ : State) (y : Result (Book Exp))
-            → run src (rules_of ar (n - 1)) (state d ws₁ bs₁) ≡ y
-            → go_on src (λ rs. done (one ∷ rs)) y ≡ ok rs τ → after ≡ noted cs k (call_counts rs)
-        last one v rs τ (ok us υ) g q =
-            rest.all us υ g
-            ∙ ap (λ l. noted l (k + 1) (call_counts us)) (p ∙ ap (set cs k) (sym v))
+        last : (one : Rule Exp) → calls_of one ≡ v → (rs : Book Exp) (z : S) (w : End (Book Exp) S)
+            → along st (rules_of ar m) y ≡ w
+            → go_on st (λ rs. done (one ∷ rs)) w ≡ ok rs z → after ≡ noted cs k (call_counts rs)
+        last one u rs z (ok us t) g q =
+            rest.all us t g
+            ∙ ap (λ l. noted l (k + 1) (call_counts us)) (p ∙ ap (set cs k) (sym u))
             ∙ ap (λ l. noted cs k (call_counts l)) (same q)
           where
-            same : run src (done (one ∷ us)) υ ≡ ok rs τ → one ∷ us ≡ rs
-            same e = unfold run in cc e
-        last one v rs τ (no j υ) g q = let z : ◌≡◌ {A = ℕ} 0 1 = cc in absurd (omega arith)
-
-pub rule_refused : {src : Source} (ar : ℕ → ℕ) (n : ℕ) {c d : Walker} {ws bs ws₁ bs₁ : List ℕ} {r : Walk} {m : ℕ}
-    → Ran src (a_rule_of ar n) c ws bs nothing r ws₁ bs₁ → r ≡ Err (m, d)
-    → Ran src (a_rule_of ar n) c ws bs calls_of (Err (m, d)) ws₁ bs₁
-rule_refused ar n h e = ran_no (refused h e)
+            same : along st (done (one ∷ us)) t ≡ ok rs z → one ∷ us ≡ rs
+            same e = unfold along in cc e
+        last one u rs z (no j t) g q = let o : ◌≡◌ {A = ℕ} 0 1 = cc in absurd (omega arith)
 
 -- ---- the whole list
 
-module _ {src : Source} (ar : ℕ → ℕ) (n : ℕ) {c d : Walker} {ws bs ws₁ bs₁ : List ℕ} {r : Walk} (h : Ran src (rules_of ar n) c ws bs nothing r ws₁ bs₁) where
-  -- there are as many rules as were asked for
-  pub rules_all : {v : ℕ} → r ≡ Ok (v, d) → Ran src (rules_of ar n) c ws bs how_many_rules (Ok (n, d)) ws₁ bs₁
-  rules_all e = always_told h e how_many_rules n (many_length (rules_of ar) (a_rule ar) (λ r. r) (rules_many ar) n)
-
-  pub rules_refused : {m : ℕ} → r ≡ Err (m, d) → Ran src (rules_of ar n) c ws bs how_many_rules (Err (m, d)) ws₁ bs₁
-  rules_refused e = ran_no (refused h e)
+-- there are as many rules as were asked for
+pub rules_all : {V S : Type 0} {st : Steps S} (ar : ℕ → ℕ) (n : ℕ) {val : Book Exp → V} {x y : S} {r : Result V ℕ} {v : V}
+    → Comes st (rules_of ar n) x val r y → r ≡ Ok v → Comes st (rules_of ar n) x how_many_rules (Ok n) y
+rules_all ar n h e = always_told h e how_many_rules n (many_length (rules_of ar) (a_rule ar) (λ r. r) (rules_many ar) n)
 
 -- what is noted of a part is noted of the whole
-module _ {src : Source} {c d : Walker} {ws bs ws₁ bs₁ : List ℕ} {r : Walk} {m : ℕ} where
-  pub list_no : (p : Grammar ℕ) (f : ℕ → Grammar (Book Exp)) (k : ℕ) {cs : List ℕ} → Ran src p c ws bs (λ v. v) r ws₁ bs₁ → r ≡ Err (m, d)
-      → Counted src (bind p f) (state c ws bs) k cs cs
+module _ {S : Type 0} {st : Steps S} (p : Grammar ℕ) (f : ℕ → Grammar (Book Exp)) (k : ℕ) {x y : S} {r : Result ℕ ℕ} (h : Comes st p x (λ v. v) r y) where
+  pub list_no : {i : ℕ} {cs : List ℕ} → r ≡ Err i → CountedAlong st (bind p f) x k cs cs
   unfolding go_on
-  list_no p f k h e = record {
-    all = λ rs τ q.
-        let z : ◌≡◌ {A = Result (Book Exp)} (no m (state d ws₁ bs₁)) (ok rs τ) =
-        sym (run_bind src f p (state c ws bs) ∙ ap (go_on src f) (refused h e)) ∙ q in
-        let y : ◌≡◌ {A = ℕ} 0 1 = cc in absurd (omega arith);
+  list_no {i} e = record {
+    all = λ rs z q.
+        let o : ◌≡◌ {A = End (Book Exp) S} (no i y) (ok rs z) =
+        sym (along_bind st f p x ∙ ap (go_on st f) (refused h e)) ∙ q in
+        let u : ◌≡◌ {A = ℕ} 0 1 = cc in absurd (omega arith);
   }
 
-  pub list_on : (p : Grammar ℕ) (f : ℕ → Grammar (Book Exp)) (k : ℕ) {cs after : List ℕ} → Ran src p c ws bs (λ v. v) r ws₁ bs₁ → r ≡ Ok (m, d)
-      → Counted src (f m) (state d ws₁ bs₁) k cs after → Counted src (bind p f) (state c ws bs) k cs after
+  pub list_on : {v : ℕ} {cs after : List ℕ} → r ≡ Ok v → CountedAlong st (f v) y k cs after → CountedAlong st (bind p f) x k cs after
   unfolding go_on
-  list_on p f k h e rest = record {
-    all = λ rs τ q.
-        let x = found h e in
-        rest.all rs τ
-        (subst (λ v. run src (f v) (state d ws₁ bs₁) ≡ ok rs τ) x.1
-        (sym (run_bind src f p (state c ws bs) ∙ ap (go_on src f) x.2) ∙ q));
+  list_on e rest = record {
+    all = λ rs z q.
+        let t = found h e in
+        rest.all rs z
+        (subst (λ v. along st (f v) y ≡ ok rs z) t.1
+        (sym (along_bind st f p x ∙ ap (go_on st f) t.2) ∙ q));
   }

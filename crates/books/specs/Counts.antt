@@ -6,6 +6,8 @@ use Rattle.fields.specs.Source.{Source}
 use Rattle.fields.specs.Grammar.{Grammar}
 use Rattle.fields.specs.Run.{State, run}
 use Rattle.fields.specs.Run.Result.{ok}
+use Rattle.fields.specs.Along.{Steps, along}
+use Rattle.fields.specs.Along.End.{ok as found}
 use Rattle.grammar.specs.Books.{RuleBook, a_book}
 use Rattle.grammar.specs.Limits.{call_counts}
 
@@ -30,3 +32,10 @@ pub record Counted (src : Source) (p : Grammar (Book Exp)) (σ : State) (k : ℕ
 -- the same of a whole book
 pub record CountedBook (src : Source) (σ : State) (before after : List ℕ) : Type 0 where
   pub all : (b : RuleBook) (τ : State) → run src a_book σ ≡ ok b τ → after ≡ noted before 0 (call_counts b.rules)
+
+-- the same of walks along fields
+pub record CountedAlong {S : Type 0} (st : Steps S) (p : Grammar (Book Exp)) (x : S) (k : ℕ) (before after : List ℕ) : Type 0 where
+  pub all : (rs : Book Exp) (y : S) → along st p x ≡ found rs y → after ≡ noted before k (call_counts rs)
+
+pub record CountedBookAlong {S : Type 0} (st : Steps S) (x : S) (before after : List ℕ) : Type 0 where
+  pub all : (b : RuleBook) (y : S) → along st a_book x ≡ found b y → after ≡ noted before 0 (call_counts b.rules)

@@ -1,2 +1,3 @@
 -- What the walk over a book notes.
 pub mod Counts
+pub mod Whole

@@ -1,19 +1,16 @@
 -- `books::book` meets its contract.
-use Rattle.fields.proofs.Runs.{ran_at}
-use Rattle.fields.proofs.Seqs.{seq_no}
-use Rattle.grammar.specs.Books.{a_book}
-use Rattle.books.proofs.Whole.{book_on, book_counted, book_uncounted}
+use Rattle.std.proofs.Common.{rules}
+use Rattle.books.proofs.Whole.{book_no, book_on, book_counted, book_uncounted}
 use Rattle.books.proofs.book.Goals as goal
 
-pub returns-in-No : goal.returns-in-No
-unfolding a_book
-returns-in-No c = record {
-  walked = seq_no (ran_at c.first-first.ensures c.signature.ensures) _ c.in-No.is;
-  counted = book_uncounted _ _ _ (ran_at c.first-first.ensures c.signature.ensures) c.in-No.is;
+pub returns-in_err-signature : goal.returns-in_err-signature
+returns-in_err-signature g c = record {
+  walked = book_no _ c.signature.ensures c.in_err-signature.was (search rules);
+  counted = book_uncounted _ c.signature.ensures c.in_err-signature.was;
 }
 
-pub returns-in-On : goal.returns-in-On
-returns-in-On c = record {
-  walked = book_on _ _ _ (ran_at c.first-first.ensures c.signature.ensures) c.in-On.is c.rule_list.ensures.walked;
-  counted = book_counted _ _ _ (ran_at c.first-first.ensures c.signature.ensures) c.in-On.is c.rule_list.ensures.counted;
+pub returns : goal.returns
+returns g c = record {
+  walked = book_on _ c.signature.ensures c.in_ok-signature.was c.rule_list.ensures.walked;
+  counted = book_counted _ c.signature.ensures c.in_ok-signature.was c.rule_list.ensures.counted;
 }

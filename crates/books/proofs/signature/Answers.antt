@@ -1,15 +1,16 @@
 -- `books::signature` meets its contract.
-use Rattle.fields.proofs.Seqs.{seq_no, seq_at}
-use Rattle.grammar.specs.Books.{a_signature}
 use native.Mathlib.Omega.{arith}
+use Rattle.std.proofs.Common.{rules}
 use Rattle.fields.specs.Kinds.{FieldKind as kind}
 use Rattle.fields.proofs.Ranges.{any_bounded}
+use Rattle.fields.proofs.Alongs.{seq_no, seq_at}
+use Rattle.grammar.specs.Books.{a_signature}
 use Rattle.books.proofs.signature.Goals as goal
 
-pub returns-in-No : goal.returns-in-No
+pub returns-in_err-n : goal.returns-in_err-n
 unfolding a_signature
-returns-in-No c = seq_no (c.take.ensures.ran _ _ (any_bounded kind.symbol_count (omega arith))) _ c.in-No.is
+returns-in_err-n g c = seq_no (c.take.ensures.comes _ _ (any_bounded kind.symbol_count (omega arith))) _ c.in_err-n.was (search rules)
 
-pub returns-in-On : goal.returns-in-On
+pub returns : goal.returns
 unfolding a_signature
-returns-in-On c = seq_at _ (c.take.ensures.ran _ _ (any_bounded kind.symbol_count (omega arith))) c.in-On.is c.arities.ensures
+returns g c = seq_at _ (c.take.ensures.comes _ _ (any_bounded kind.symbol_count (omega arith))) c.in_ok-n.was c.arities.ensures
