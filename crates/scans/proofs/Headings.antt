@@ -1,5 +1,5 @@
 -- The fields of a node that one view holds, and what its head comes to.
-use Rattle.std.specs.Prelude.{Ok}
+use Rattle.std.specs.Prelude.{Ok, Err}
 use Prim.Native.Nat.{ℕ, ◌+◌, ◌-◌, ◌/◌, ◌%◌, ◌^◌, ◌<◌, ◌≤◌}
 use mathlib.Core.Path.{◌≡◌, refl, ap, ◌∙◌, subst}
 use mathlib.Core.Logic.{◌≢◌}
@@ -19,10 +19,9 @@ use Rattle.grammar.specs.Terms.{Grown, args_of, a_symbol, a_variable, an_applied
 use Rattle.terms.specs.Values.{left_of, left_of_all}
 use Rattle.terms.proofs.Nodes.{node_variable, node_applied, node_raised}
 use Rattle.scans.specs.Glance.{Scan}
-use Rattle.scans.specs.declared.heads.Head.{Head}
-use Rattle.scans.specs.declared.heads.Head.TheVariants.{Leaf, Applied, Bad}
+use Rattle.terms.specs.declared.heads.Head.TheVariants.{Leaf, Applied}
 use Rattle.scans.specs.Glance.{Scans}
-use Rattle.scans.specs.Headings.{Heading, SymbolAt, PowerAt, NodeAt}
+use Rattle.scans.specs.Headings.{Found, Heading, SymbolAt, PowerAt, NodeAt}
 use Rattle.scans.specs.Headings.{Heading as heading}
 use Rattle.scans.proofs.Seqs.{seq_no, seq_on, seq_at, seq_last, scan_done}
 use Rattle.scans.proofs.Taking.{field_past, field_refused, field_in, packed_past, packed_in}
@@ -39,7 +38,7 @@ view_field s {at} view o w h k r = packed_in s w (at + o) h (omega arith) (view.
 -- ---- a symbol
 
 module _ (ar : ℕ → ℕ) {x at left : ℕ} where
-  pub symbol_past : left < 10 → SymbolAt ar x at left (Bad 3 (record { at = at + 2 }))
+  pub symbol_past : left < 10 → SymbolAt ar x at left (Err (3, record { at = at + 2 }))
   unfolding an_applied a_symbol
   symbol_past h = record {
     told = λ s view e term rest.
@@ -47,7 +46,7 @@ module _ (ar : ℕ → ℕ) {x at left : ℕ} where
   }
 
   module _ {n : ℕ} (found : n ≡ ar (x / 2 ^ 54 % 256)) (room : 10 ≤ left) where
-    refused : test (applied ar) (x / 2 ^ 54 % 256) ≡ some 4 → SymbolAt ar x at left (Bad 4 (record { at = at + 2 }))
+    refused : test (applied ar) (x / 2 ^ 54 % 256) ≡ some 4 → SymbolAt ar x at left (Err (4, record { at = at + 2 }))
     unfolding an_applied a_symbol
     refused t = record {
       told = λ s view e term rest.
@@ -57,13 +56,13 @@ module _ (ar : ℕ → ℕ) {x at left : ℕ} where
           (view_field s view 2 8 (omega arith) (omega arith) (omega arith)) 4 t) _ refl);
     }
 
-    pub symbol_unary : n ≡ 1 → SymbolAt ar x at left (Bad 4 (record { at = at + 2 }))
+    pub symbol_unary : n ≡ 1 → SymbolAt ar x at left (Err (4, record { at = at + 2 }))
     symbol_unary h = refused (rw (← found, eq-eqb n 1 h))
 
-    pub symbol_missing : n ≢ 1 → 8 < n → SymbolAt ar x at left (Bad 4 (record { at = at + 2 }))
+    pub symbol_missing : n ≢ 1 → 8 < n → SymbolAt ar x at left (Err (4, record { at = at + 2 }))
     symbol_missing h k = refused (rw (← found, ne_eqb n 1 h, lt-leb n 8 k))
 
-    pub symbol_in : n ≢ 1 → n ≤ 8 → SymbolAt ar x at left (Applied n (record { at = at + 10 }))
+    pub symbol_in : n ≢ 1 → n ≤ 8 → SymbolAt ar x at left (Ok (Applied n, record { at = at + 10 }))
     unfolding an_applied a_symbol
     symbol_in h k = record {
       told = λ s view e term rest.
@@ -79,7 +78,7 @@ module _ (ar : ℕ → ℕ) {x at left : ℕ} where
 -- ---- the head of a node, by its tag
 
 -- what p comes to, q comes to: so does what stands behind its head
-heading_in : {s : List ℕ} {p q : Grammar Grown} {c d : Cursor} {term : ℕ → ℕ → Grammar Grown} {rest : ℕ} {r : Head}
+heading_in : {s : List ℕ} {p q : Grammar Grown} {c d : Cursor} {term : ℕ → ℕ → Grammar Grown} {rest : ℕ} {r : Found}
     → ((x : Scan) → Scans s p c left_of x → Scans s q d left_of x) → Heading s p c term rest r → Heading s q d term rest r
 heading_in h (heading.refused k) = heading.refused (h _ k)
 heading_in h (heading.variable k) = heading.variable (h _ k)
@@ -92,14 +91,14 @@ the_tag s c known view inside =
 
 -- `room` is how many bits there are
 module _ {s : List ℕ} {ar : ℕ → ℕ} {end least above room : ℕ} {c : Cursor} (known : room ≡ room_of s) where
-  pub node_past : room < c.at + 2 → NodeAt s ar end least above c (Bad 3 c)
+  pub node_past : room < c.at + 2 → NodeAt s ar end least above c (Err (3, c))
   node_past h = record {
     told = λ left some term.
         heading.refused (seq_no (field_past s kind.tag (node least left) c {val = λ v. v} (ne_eqb left 0 some) (packed_past s 2 c.at (omega arith))) _ refl);
   }
 
   module _ {x : ℕ} (view : Views s c.at x) (inside : c.at + 2 ≤ room) where
-    outside : between least 3 4 (x / 2 ^ 62 % 4) ≡ some 4 → NodeAt s ar end least above c (Bad 4 c)
+    outside : between least 3 4 (x / 2 ^ 62 % 4) ≡ some 4 → NodeAt s ar end least above c (Err (4, c))
     outside t = record {
       told = λ left some term.
           heading.refused
@@ -108,14 +107,14 @@ module _ {s : List ℕ} {ar : ℕ → ℕ} {end least above room : ℕ} {c : Cur
           (rw (ne_eqb left 0 some) t)) _ refl);
     }
 
-    pub node_low : x / 2 ^ 62 % 4 < least → NodeAt s ar end least above c (Bad 4 c)
+    pub node_low : x / 2 ^ 62 % 4 < least → NodeAt s ar end least above c (Err (4, c))
     node_low h = outside (between_low least 3 4 (x / 2 ^ 62 % 4) h)
 
-    pub node_three : least ≤ x / 2 ^ 62 % 4 → 3 ≤ x / 2 ^ 62 % 4 → NodeAt s ar end least above c (Bad 4 c)
+    pub node_three : least ≤ x / 2 ^ 62 % 4 → 3 ≤ x / 2 ^ 62 % 4 → NodeAt s ar end least above c (Err (4, c))
     node_three h k = outside (between_high least 3 4 (x / 2 ^ 62 % 4) h k)
 
     -- the tag is passed, and p is what it says comes behind it
-    behind : (p : ℕ → (ℕ → ℕ → Grammar Grown) → Grammar Grown) {r : Head} → least ≤ x / 2 ^ 62 % 4 → x / 2 ^ 62 % 4 < 3
+    behind : (p : ℕ → (ℕ → ℕ → Grammar Grown) → Grammar Grown) {r : Found} → least ≤ x / 2 ^ 62 % 4 → x / 2 ^ 62 % 4 < 3
         → ((left : ℕ) (term : ℕ → ℕ → Grammar Grown) → a_node term ar end above left (x / 2 ^ 62 % 4) ≡ p left term)
         → ((left : ℕ) (term : ℕ → ℕ → Grammar Grown) → Heading s (p left term) (record { at = c.at + 2 }) term left r)
         → NodeAt s ar end least above c r
@@ -131,14 +130,14 @@ module _ {s : List ℕ} {ar : ℕ → ℕ} {end least above room : ℕ} {c : Cur
     }
 
     module _ (h : least ≤ x / 2 ^ 62 % 4) where
-      pub node_leaf_past : x / 2 ^ 62 % 4 ≡ 0 → room < c.at + 8 → NodeAt s ar end least above c (Bad 3 (record { at = c.at + 2 }))
+      pub node_leaf_past : x / 2 ^ 62 % 4 ≡ 0 → room < c.at + 8 → NodeAt s ar end least above c (Err (3, record { at = c.at + 2 }))
       unfolding a_variable
       node_leaf_past k o =
           behind (λ left term. a_variable left) h (omega arith) (λ left term. node_variable term ar end above left _ k)
           (λ left term.
           heading.refused (seq_no (field_past s kind.variable any _ {val = λ v. v} refl (packed_past s 6 (c.at + 2) (omega arith))) _ refl))
 
-      pub node_leaf : x / 2 ^ 62 % 4 ≡ 0 → c.at + 8 ≤ room → NodeAt s ar end least above c (Leaf (record { at = c.at + 8 }))
+      pub node_leaf : x / 2 ^ 62 % 4 ≡ 0 → c.at + 8 ≤ room → NodeAt s ar end least above c (Ok (Leaf, record { at = c.at + 8 }))
       unfolding a_variable
       node_leaf k o =
           behind (λ left term. a_variable left) h (omega arith) (λ left term. node_variable term ar end above left _ k)
@@ -149,7 +148,7 @@ module _ {s : List ℕ} {ar : ℕ → ℕ} {end least above room : ℕ} {c : Cur
           (at_bit {n = c.at + 8} (omega arith)))
           _ refl (λ v q. scan_done _ _)))
 
-      module _ {left : ℕ} {r : Head} where
+      module _ {left : ℕ} {r : Found} where
         pub node_symbol : x / 2 ^ 62 % 4 ≡ 1 → SymbolAt ar x c.at left r → c.at + left ≡ room → NodeAt s ar end least above c r
         node_symbol k S all =
             behind (λ rest term. an_applied term ar rest) h (omega arith) (λ rest term. node_applied term ar end above rest _ k)

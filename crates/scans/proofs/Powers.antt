@@ -1,5 +1,5 @@
 -- The power of a node: its symbol, and its two numbers, in one view.
-use Rattle.std.specs.Prelude.{Ok}
+use Rattle.std.specs.Prelude.{Ok, Err}
 use Prim.Native.Nat.{ℕ, ◌+◌, ◌/◌, ◌%◌, ◌^◌, ◌<◌, ◌≤◌}
 use mathlib.Core.Path.{◌≡◌, refl, sym, subst}
 use mathlib.Core.Logic.{◌≢◌}
@@ -15,7 +15,7 @@ use Rattle.fields.specs.Grammar.{field}
 use Rattle.fields.proofs.Ranges.{between_high, between_ok, passes_exactly, unnormal_exactly}
 use Rattle.grammar.specs.Terms.{a_unary, an_exponent, a_raise, a_raised}
 use Rattle.terms.specs.Values.{left_of, first_of}
-use Rattle.scans.specs.declared.heads.Head.TheVariants.{Raised, Bad}
+use Rattle.terms.specs.declared.heads.Head.TheVariants.{Raised}
 use Rattle.scans.specs.Glance.{Scans}
 use Rattle.scans.specs.Headings.{PowerAt}
 use Rattle.scans.specs.Headings.{Heading as heading}
@@ -63,7 +63,7 @@ a_in end {x} {at} room low s view e =
     (between_ok 0 end 4 _ (omega arith) low) refl (at_bit {n = at + 22} (omega arith))
 
 module _ (ar : ℕ → ℕ) {end above x at left : ℕ} where
-  pub power_past : left < 10 → PowerAt ar end above x at left (Bad 3 (record { at = at + 2 }))
+  pub power_past : left < 10 → PowerAt ar end above x at left (Err (3, record { at = at + 2 }))
   unfolding a_raised a_raise a_unary
   power_past h = record {
     told = λ s view e term rest.
@@ -73,7 +73,7 @@ module _ (ar : ℕ → ℕ) {end above x at left : ℕ} where
   }
 
   module _ {n : ℕ} (found : n ≡ ar (x / 2 ^ 54 % 256)) (room : 10 ≤ left) where
-    symbol_refused : (m : ℕ) → test (unary ar above) (x / 2 ^ 54 % 256) ≡ some m → PowerAt ar end above x at left (Bad m (record { at = at + 2 }))
+    symbol_refused : (m : ℕ) → test (unary ar above) (x / 2 ^ 54 % 256) ≡ some m → PowerAt ar end above x at left (Err (m, record { at = at + 2 }))
     unfolding a_raised a_raise a_unary
     symbol_refused m t = record {
       told = λ s view e term rest.
@@ -86,14 +86,14 @@ module _ (ar : ℕ → ℕ) {end above x at left : ℕ} where
           _ refl);
     }
 
-    pub power_not : n ≢ 1 → PowerAt ar end above x at left (Bad 4 (record { at = at + 2 }))
+    pub power_not : n ≢ 1 → PowerAt ar end above x at left (Err (4, record { at = at + 2 }))
     power_not h = symbol_refused 4 (rw (← found, ne_eqb n 1 h))
 
-    pub power_like : n ≡ 1 → x / 2 ^ 54 % 256 ≡ above → PowerAt ar end above x at left (Bad 5 (record { at = at + 2 }))
+    pub power_like : n ≡ 1 → x / 2 ^ 54 % 256 ≡ above → PowerAt ar end above x at left (Err (5, record { at = at + 2 }))
     power_like h k = symbol_refused 5 (rw (← found, eq-eqb n 1 h, eq-eqb (x / 2 ^ 54 % 256) above k))
 
     module _ (one : n ≡ 1) (unlike : x / 2 ^ 54 % 256 ≢ above) where
-      pub power_a_past : left < 22 → PowerAt ar end above x at left (Bad 3 (record { at = at + 10 }))
+      pub power_a_past : left < 22 → PowerAt ar end above x at left (Err (3, record { at = at + 10 }))
       unfolding a_raised a_raise an_exponent
       power_a_past h = record {
         told = λ s view e term rest.
@@ -107,7 +107,7 @@ module _ (ar : ℕ → ℕ) {end above x at left : ℕ} where
       }
 
       module _ (room₁ : 22 ≤ left) where
-        pub power_a_high : end ≤ x / 2 ^ 42 % 4096 → PowerAt ar end above x at left (Bad 4 (record { at = at + 10 }))
+        pub power_a_high : end ≤ x / 2 ^ 42 % 4096 → PowerAt ar end above x at left (Err (4, record { at = at + 10 }))
         unfolding a_raised a_raise an_exponent
         power_a_high h = record {
           told = λ s view e term rest.
@@ -124,7 +124,7 @@ module _ (ar : ℕ → ℕ) {end above x at left : ℕ} where
         }
 
         module _ (low : x / 2 ^ 42 % 4096 < end) where
-          pub power_b_past : left < 34 → PowerAt ar end above x at left (Bad 3 (record { at = at + 22 }))
+          pub power_b_past : left < 34 → PowerAt ar end above x at left (Err (3, record { at = at + 22 }))
           unfolding a_raised a_raise an_exponent
           power_b_past h = record {
             told = λ s view e term rest.
@@ -139,7 +139,7 @@ module _ (ar : ℕ → ℕ) {end above x at left : ℕ} where
           }
 
           module _ (room₂ : 34 ≤ left) where
-            pub power_zero : x / 2 ^ 30 % 16777216 ≡ 0 → PowerAt ar end above x at left (Bad 5 (record { at = at + 22 }))
+            pub power_zero : x / 2 ^ 30 % 16777216 ≡ 0 → PowerAt ar end above x at left (Err (5, record { at = at + 22 }))
             unfolding a_raised a_raise an_exponent
             power_zero h = record {
               told = λ s view e term rest.
@@ -156,7 +156,7 @@ module _ (ar : ℕ → ℕ) {end above x at left : ℕ} where
                   _ refl);
             }
 
-            pub power_in : x / 2 ^ 30 % 16777216 ≢ 0 → PowerAt ar end above x at left (Raised (x / 2 ^ 54 % 256) (record { at = at + 34 }))
+            pub power_in : x / 2 ^ 30 % 16777216 ≢ 0 → PowerAt ar end above x at left (Ok (Raised (x / 2 ^ 54 % 256), record { at = at + 34 }))
             unfolding a_raised a_raise an_exponent
             power_in h = record {
               told = λ s view e term rest.

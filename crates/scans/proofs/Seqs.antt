@@ -44,22 +44,17 @@ module _ {A B : Type 0} (s : List ℕ) (f : A → Grammar B) where
 -- ---- what the code shows of a glance
 
 module _ {A : Type 0} (val : A → ℕ) (d : Cursor) where
-  shown_on : (x : Glance A) (v : ℕ) → Ok (v, d) ≡ glanced val x → (a : A) × (val a ≡ v) × (x ≡ ok a d)
-  shown_on (ok a c) v p = (a, cc p, λ i. ok a (cursor p i))
-    where
-      cursor : Ok (v, d) ≡ Ok (val a, c) → c ≡ d
-      cursor q = cc
+  shown_on : (x : Glance A) (v : ℕ) → ◌≡◌ {A = Scan} (Ok (v, d)) (glanced val x) → (a : A) × (val a ≡ v) × (x ≡ ok a d)
+  shown_on (ok a c) v p =
+      let t : ◌≡◌ {A = ℕ × Cursor} (v, d) (val a, c) = cc p in
+      (a, sym (ap (λ (u : ℕ × Cursor). u.0) t), λ i. ok a (sym (ap (λ (u : ℕ × Cursor). u.1) t) i))
   shown_on (no m c) v p = let z : ◌≡◌ {A = ℕ} 0 1 = cc p in absurd (omega arith)
 
-  shown_no : (x : Glance A) (m : ℕ) → Err (m, d) ≡ glanced val x → x ≡ no m d
+  shown_no : (x : Glance A) (m : ℕ) → ◌≡◌ {A = Scan} (Err (m, d)) (glanced val x) → x ≡ no m d
   shown_no (ok a c) m p = let z : ◌≡◌ {A = ℕ} 0 1 = cc p in absurd (omega arith)
-  shown_no (no k c) m p = λ i. no (number p i) (cursor p i)
-    where
-      number : Err (m, d) ≡ Err (k, c) → k ≡ m
-      number q = cc
-
-      cursor : Err (m, d) ≡ Err (k, c) → c ≡ d
-      cursor q = cc
+  shown_no (no k c) m p =
+      let t : ◌≡◌ {A = ℕ × Cursor} (m, d) (k, c) = cc p in
+      λ i. no (sym (ap (λ (u : ℕ × Cursor). u.0) t) i) (sym (ap (λ (u : ℕ × Cursor). u.1) t) i)
 
 -- ---- two walks
 

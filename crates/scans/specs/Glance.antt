@@ -1,15 +1,19 @@
 -- A walk by bits alone: what a grammar finds in a file's bytes from a cursor on. Nothing is counted, and nothing is handed out.
-use Rattle.std.specs.Prelude.{ℕ, ◌+◌, ◌≡◌, List, cond, Ok, Err}
+use Rattle.std.specs.Prelude.{ℕ, ◌+◌, ◌≡◌, List, cond, Result, Ok, Err}
 use Rattle.bits.specs.declared.Cursor.{Cursor}
 use Rattle.fields.specs.Source.{Field}
 use Rattle.fields.specs.Source.{packed_field}
-use Rattle.fields.specs.Kinds.{FieldKind, Range, bits, test, spent, Bounded}
-use Rattle.fields.specs.Grammar.{Grammar, done, ask, field, on_field, tested}
+use Rattle.fields.specs.Kinds.{FieldKind, Range, bits, test, spent}
+use Rattle.fields.specs.Grammar.{Grammar, done, ask, on_field, tested}
 
 -- a tree and the cursor past it, or the number of the first refusal and the cursor where it is given
 pub data Glance (A : Type 0) : Type 0 where
   ok : A → Cursor → Glance A
   no : ℕ → Cursor → Glance A
+
+-- what the code tells: a value and the cursor past it, or the number of a refusal and the cursor where it is given
+abbrev pub Scan : Type 0
+Scan = Result (ℕ × Cursor) (ℕ × Cursor)
 
 -- at a file's first bit
 abbrev pub first_bit : Cursor
@@ -36,7 +40,3 @@ glanced val (no m d) = Err (m, d)
 -- a walk over p that began at c came to r
 pub record Scans {A : Type 0} (s : List ℕ) (p : Grammar A) (c : Cursor) (val : A → ℕ) (r : Scan) : Type 0 where
   pub told : r ≡ glanced val (glance s p c)
-
--- the same of one field, of whatever kind and range the two bounds tell
-pub record Takes (s : List ℕ) (w least end m : ℕ) (c : Cursor) (r : Scan) : Type 0 where
-  pub scans : (k : FieldKind) (range : Range) → Bounded k range w least end m → Scans s (field k range) c (λ v. v) r

@@ -1,39 +1,38 @@
-// The walk over both files for judging: it tests each field, and hands nothing out.
+// The walk over both files for judging: a scanner takes fields out of bytes and the head of a node out of one view; it
+// counts nothing, and hands nothing out.
 #![tactic(auto)]
 
-mod claims;
-pub mod closings;
+pub mod files;
 mod heads;
-pub mod rulebook;
-mod steps;
-mod trees;
 
-ghost use Rattle.scans.specs.Glance.{Takes};
+ghost use Rattle.scans.specs.Scanning.{scanning};
 
-use bits::{Cursor, Taken};
+use bits::Cursor;
+use fields::{Field, Fields};
 
-// What a walk comes to: a value and the cursor past it, or the number of a refusal and the cursor where it is given.
+// The bytes, and how far the walk has come.
 #[derive(Clone, Copy)]
-pub enum Scan {
-    On(usize, Cursor),
-    No(u16, Cursor),
+pub struct Scanner<'a> {
+    pub s: &'a [u8],
+    pub cursor: Cursor,
 }
 
-// The field of w bits at a cursor, passed if it is at least `least` and below `end`; else it is refused with `number`.
-fn take(s: &[u8], w: usize, least: usize, end: usize, number: u16, c: Cursor) -> Scan
-    ensures { Takes s.now w least end number c result }
-{
-    match c.take(w, s) {
-        Taken::Past => Scan::No(3, c),
-        Taken::Got(v, d) => {
-            let n = v as usize;
-            if n < least {
-                return Scan::No(number, c);
-            }
-            if n >= end {
-                return Scan::No(number, c);
-            }
-            Scan::On(n, d)
+// What a walk comes to: a value and the cursor past it, or the number of a refusal and the cursor where it is given.
+pub type Scan = Result<(usize, Cursor), (u16, Cursor)>;
+
+impl Fields for Scanner<'_> {
+    ghost steps = { scanning };
+
+    fn look(&self, w: usize) -> Field {
+        match self.cursor.take(w, self.s) {
+            Some((v, _)) => Ok(v),
+            None => Err(3),
         }
+    }
+
+    fn pass(&mut self, w: usize, _v: u16) {
+        self.cursor = Cursor {
+            at: self.cursor.at + w,
+        };
     }
 }
