@@ -23,8 +23,7 @@ use Rattle.grammar.specs.Listing.{Fields, term_fields}
 use Rattle.terms.specs.Values.{nothing}
 use Rattle.layout.specs.Files.{Opened, good, where_good, open_call}
 use Rattle.layout.specs.Openings.{CallOpened}
-use Rattle.layout.specs.declared.Opening.{Opening}
-use Rattle.layout.specs.declared.Opening.TheVariants.{Open, Shut}
+use Rattle.layout.specs.Openings.{Opening}
 use Rattle.layout.proofs.Answering.{opening_shut, opening_good}
 use Rattle.layout.proofs.OneFile.{call_file_fits}
 use Rattle.table.specs.Places.{WORDS, LEFTS}
@@ -73,13 +72,13 @@ where_opened : (o : Opened Pattern) (f : Pattern → Reply) {c : Pattern} {fs : 
 where_opened o f e = rw e
 
 module _ {book certificate call : List ℕ} {at α : ℕ} {o : Opening} (C : CallOpened book call o) where
-  pub call_shut : {r : Refusal} → o ≡ Shut r → AsksCall book certificate call at α (Err r)
+  pub call_shut : {r : Refusal} → o ≡ Err r → AsksCall book certificate call at α (Err r)
   unfolding paper_coverage
   call_shut {r} e = record {
     told = λ b fs h t l. let s = opening_shut nothing (open_call b call) (C.told b fs h) e in rw s;
   }
 
-  pub call_searched : {v n k : ℕ} {w after : List ℕ} {s : Index} {r : Result ℕ Refusal} → o ≡ Open v n k
+  pub call_searched : {v n k : ℕ} {w after : List ℕ} {s : Index} {r : Result ℕ Refusal} → o ≡ Ok (record { value = v; fields = n; bits = k })
       → Searches book certificate call at α w after s → paper_coverage r ≡ told_index (index_found s)
       → AsksCall book certificate call at α r
   call_searched e S q = record {

@@ -3,6 +3,7 @@ use Rattle.std.specs.Prelude.{Result as Either, Ok, Err}
 use Prim.Native.Nat.{ℕ}
 use mathlib.Core.Path.{◌≡◌, refl, sym, ap, ◌∙◌}
 use mathlib.Core.Option.{Option, none, some}
+use native.Mathlib.Omega.{arith}
 use Rattle.fields.specs.declared.copier.Copier.{Copier}
 use Rattle.fields.specs.declared.Walker.{Walker}
 use Rattle.fields.specs.Source.{Field, Walk, source}
@@ -13,7 +14,7 @@ use Rattle.fields.specs.Run.{shown as shown_run}
 use Rattle.fields.specs.Run.Result.{ok as ok_run, no as no_run}
 use Rattle.fields.specs.Along.{End, asked, along, shown, told_at, Comes}
 use Rattle.fields.specs.Along.End.{ok, no}
-use Rattle.fields.specs.Copying.{copying, copied}
+use Rattle.fields.specs.Copying.{copying, copied, walk_of}
 
 -- where a copier stands, with its outputs
 abbrev pub state_of : Copier → State
@@ -44,11 +45,6 @@ same_run {A} (ask k r next) x = go (λ v. same_run (next v) (copied (bits k) v x
     go ih (Ok v) = under v (ih v) (test r v)
     go ih (Err m) = refl
 
--- what a walk comes to, with the place where it stands
-abbrev pub walk_of : Either ℕ ℕ → Walker → Walk
-walk_of (Ok v) c = Ok (v, c)
-walk_of (Err m) c = Err (m, c)
-
 unfoldable showing : End ℕ Copier → Shown
 showing (ok v y) = record { walk = Ok (v, y.at); words = y.words.now; bytes = y.bytes.now }
 showing (no m y) = record { walk = Err (m, y.at); words = y.words.now; bytes = y.bytes.now }
@@ -62,6 +58,12 @@ showing_shown : {A : Type 0} (val : A → ℕ) (e : End A Copier) → showing (s
 unfolding showing shown of_end
 showing_shown val (ok a y) = refl
 showing_shown val (no m y) = refl
+
+-- what a run found, the copier's walk found
+pub run_found : {A : Type 0} (e : End A Copier) {a : A} {τ : State} → of_end e ≡ ok_run a τ → (y : Copier) × (e ≡ ok a y)
+unfolding of_end
+run_found (ok b y) q = (y, ap (λ z. ok z y) (cc q))
+run_found (no m y) q = let z : ◌≡◌ {A = ℕ} 0 1 = cc q in absurd (omega arith)
 
 -- so it meets what a run is held to
 pub copier_ran : {A : Type 0} {p : Grammar A} {x y : Copier} {val : A → ℕ} {r : Either ℕ ℕ} → Comes copying p x val r y

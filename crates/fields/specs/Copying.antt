@@ -1,8 +1,9 @@
 -- A copier as a place: the field that stands there, and the copier past it, which has put the field into both outputs.
-use Rattle.std.specs.Prelude.{ℕ, set}
+use Rattle.std.specs.Prelude.{ℕ, set, Result, Ok, Err}
 use Rattle.bits.specs.Put.{put_field}
 use Rattle.fields.specs.declared.copier.Copier.{Copier}
-use Rattle.fields.specs.Source.{Field, field_at, moved}
+use Rattle.fields.specs.declared.Walker.{Walker}
+use Rattle.fields.specs.Source.{Field, Walk, field_at, moved}
 use Rattle.fields.specs.Along.{Steps}
 
 -- the field of w bits at the copier
@@ -21,3 +22,8 @@ copied w v x = record {
 
 abbrev pub copying : Steps Copier
 copying = record { at = field_before; past = copied }
+
+-- what a walk comes to, with the walker where it stands
+abbrev pub walk_of : Result ℕ ℕ → Walker → Walk
+walk_of (Ok v) c = Ok (v, c)
+walk_of (Err m) c = Err (m, c)

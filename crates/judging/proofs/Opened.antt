@@ -5,7 +5,7 @@ use mathlib.Core.Path.{◌≡◌, refl, sym, subst, ◌∙◌}
 use mathlib.Core.Bool.{false}
 use mathlib.Core.List.{List, []}
 use native.Mathlib.Omega.{arith}
-use Rattle.std.specs.Prelude.{Result, Err}
+use Rattle.std.specs.Prelude.{Result, Err, Ok}
 use Rattle.fields.specs.Source.{start}
 use Rattle.answers.specs.declared.Acceptance.{Acceptance}
 use Rattle.answers.specs.Numbers.{paper_refusal, paper_verdict}
@@ -23,8 +23,7 @@ use Rattle.grammar.specs.Limits.{call_counts, BookFits, CertificateFits}
 use Rattle.grammar.proofs.BookFields.{a_book_exactly}
 use Rattle.grammar.proofs.CertificateFields.{a_certificate_exactly}
 use Rattle.terms.specs.Values.{nothing}
-use Rattle.layout.specs.declared.seeing.Finding.{Finding}
-use Rattle.layout.specs.declared.seeing.Finding.TheVariants.{Good, Shut}
+use Rattle.layout.specs.Findings.{Finding}
 use Rattle.answers.specs.declared.Refusal.{Refusal}
 use Rattle.layout.specs.Files.{good, open_bytes, open_book, open_certificate, certificate_of}
 use Rattle.layout.specs.Openings.{Beside}
@@ -85,13 +84,13 @@ certificate_lies {s} {b} {K} {fs} f e =
 -- ---- the certificate beside its book
 
 module _ {book counts certificate : List ℕ} {o : Finding} (B : Beside book counts) (C : CertificateSeen book certificate o) where
-  pub certificate_shut : {r : Refusal} → o ≡ Shut r → paper_verdict (Err r) ≡ judging_certificate book certificate
+  pub certificate_shut : {r : Refusal} → o ≡ Err r → paper_verdict (Err r) ≡ judging_certificate book certificate
   unfolding paper_verdict
   certificate_shut {r} e =
       sym (certificate_refused book certificate B.tree B.fields B.opened (paper_refusal r)
       (finding_shut nothing (open_certificate B.tree certificate) (C.told B.tree B.fields B.opened) e))
 
-  pub certificate_judged : {v : ℕ} {w after : List ℕ} {r : Result Acceptance Refusal} → o ≡ Good v → JudgesLines book certificate w after r
+  pub certificate_judged : {v : ℕ} {w after : List ℕ} {r : Result Acceptance Refusal} → o ≡ Ok v → JudgesLines book certificate w after r
       → paper_verdict r ≡ judging_certificate book certificate
   certificate_judged e j =
       let g = finding_good nothing (open_certificate B.tree certificate) (C.told B.tree B.fields B.opened) e in

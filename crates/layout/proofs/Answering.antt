@@ -9,8 +9,7 @@ use Rattle.std.specs.Prelude.{Result, Ok, Err}
 use Rattle.answers.specs.Carried.{refusal_at}
 use Rattle.answers.specs.Numbers.{filled_with, refused_with, paper_refusal, paper_answer}
 use Rattle.patterns.specs.Reason.{Reason}
-use Rattle.layout.specs.declared.Opening.{Opening}
-use Rattle.layout.specs.declared.Opening.TheVariants.{Open, Shut}
+use Rattle.layout.specs.Openings.{Opening}
 use Rattle.answers.specs.declared.Refusal.{Refusal}
 use Rattle.layout.specs.Files.{Opened, good, bad}
 use Rattle.layout.specs.Answers.{Given, gives, refuses, told, output}
@@ -61,7 +60,7 @@ module _ (w : ℕ) (g : Given) (out : List ℕ) where
 
 -- ---- an opening, by what was seen
 
-pub opening_shut : {A : Type 0} (val : A → ℕ) (x : Opened A) {o : Opening} {r : Refusal} → sight o ≡ seen val x → o ≡ Shut r
+pub opening_shut : {A : Type 0} (val : A → ℕ) (x : Opened A) {o : Opening} {r : Refusal} → sight o ≡ seen val x → o ≡ Err r
     → x ≡ bad (paper_refusal r)
 unfolding sight seen
 opening_shut val (good a fs) h e = let q = sym (ap sight e) ∙ h in let z : ◌≡◌ {A = ℕ} 0 1 = cc q in absurd (omega arith)
@@ -75,7 +74,7 @@ pub record GoodFile {A : Type 0} (val : A → ℕ) (x : Opened A) (v n k : ℕ) 
   pub many : length fields ≡ n
   pub wide : width fields ≡ k
 
-pub opening_good : {A : Type 0} (val : A → ℕ) (x : Opened A) {o : Opening} {v n k : ℕ} → sight o ≡ seen val x → o ≡ Open v n k
+pub opening_good : {A : Type 0} (val : A → ℕ) (x : Opened A) {o : Opening} {v n k : ℕ} → sight o ≡ seen val x → o ≡ Ok (record { value = v; fields = n; bits = k })
     → GoodFile val x v n k
 unfolding sight seen
 opening_good val (good a fs) h e =

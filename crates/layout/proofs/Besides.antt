@@ -1,4 +1,5 @@
 -- A certificate or a call beside its book: the arities that are looked up in the book's bytes, and the calls that were noted.
+use Rattle.std.specs.Prelude.{Ok}
 use Prim.Native.Nat.{ℕ, ◌<◌}
 use mathlib.Core.Path.{◌≡◌, sym, ◌∙◌, ap, subst, fun_ext}
 use mathlib.Core.List.{List, []}
@@ -22,15 +23,14 @@ use Rattle.terms.proofs.Arities.{in_bytes_only}
 use Rattle.terms.specs.Arity.{arity_at}
 use Rattle.terms.specs.Values.{nothing}
 use Rattle.books.proofs.Lookup.{arity_known}
-use Rattle.layout.specs.declared.Opening.{Opening}
-use Rattle.layout.specs.declared.Opening.TheVariants.{Open}
+use Rattle.layout.specs.Openings.{Opening}
 use Rattle.layout.specs.Files.{good, certificate_of, open_book}
 use Rattle.layout.specs.Openings.{BookOpened, Beside}
 use Rattle.layout.proofs.Answering.{opening_good}
 use Rattle.layout.proofs.Opens.{in_bytes, book_fits}
 
 -- the part of the notes that a good book fills
-module _ {s counts : List ℕ} {r : Opening} {m n k : ℕ} (h : BookOpened s r counts) (e : r ≡ Open m n k) where
+module _ {s counts : List ℕ} {r : Opening} {m n k : ℕ} (h : BookOpened s r counts) (e : r ≡ Ok (record { value = m; fields = n; bits = k })) where
   pub few_rules : m < 256
   few_rules =
       let g = opening_good _ _ h.told e in

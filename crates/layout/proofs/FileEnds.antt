@@ -26,7 +26,6 @@ use Rattle.fields.proofs.Reading.{end_room}
 use Rattle.fields.proofs.Trips.{end_bit, end_n}
 use Rattle.layout.specs.Files.{good, bad, ends_at, closed_bytes, open_bytes, closed_list, open_list}
 use Rattle.answers.specs.declared.W.{W}
-use Rattle.layout.specs.declared.Opening.TheVariants.{Open, Shut}
 use Rattle.answers.specs.declared.Refusal.{Refusal}
 use Rattle.layout.specs.Openings.{sees, shut, sight, seen, seen_bytes, seen_list, walked_bits}
 use Rattle.fields.proofs.Refusing.{Few, refused_few}
@@ -153,30 +152,30 @@ bits_on n e h = subst (λ x. walked_bits x ≤ n) e h
 
 module _ (s : List ℕ) (place : W) {r : Walk} {c : Walker} where
   pub bytes_good : {v : ℕ} {b : Bool} → r ≡ Ok (v, c) → b ≡ ends_at s c.bit → b ≡ true
-      → sight (Open v c.n c.bit) ≡ seen_bytes (w_of place) s r
+      → sight (Ok (record { value = v; fields = c.n; bits = c.bit })) ≡ seen_bytes (w_of place) s r
   unfolding sight seen_bytes
   bytes_good e g t = rw (e, ← g, t)
 
   pub bytes_left : {v : ℕ} {b : Bool} (f : Refusal) → r ≡ Ok (v, c) → b ≡ ends_at s c.bit → b ≡ false
-      → paper_refusal f ≡ carried 7 (w_of place) c.bit 0 → sight (Shut f) ≡ seen_bytes (w_of place) s r
+      → paper_refusal f ≡ carried 7 (w_of place) c.bit 0 → sight (Err f) ≡ seen_bytes (w_of place) s r
   unfolding sight seen_bytes carried of_a_field
   bytes_left f e g t h = rw (e, ← g, t) (ap shut h)
 
   pub bytes_no : {m : ℕ} (f : Refusal) → r ≡ Err (m, c) → paper_refusal f ≡ carried m (w_of place) c.bit 0
-      → sight (Shut f) ≡ seen_bytes (w_of place) s r
+      → sight (Err f) ≡ seen_bytes (w_of place) s r
   unfolding sight seen_bytes
   bytes_no f e h = rw e (ap shut h)
 
 module _ (l : List ℕ) (place : W) {r : Walk} {c : Walker} where
-  pub list_good : {v : ℕ} → r ≡ Ok (v, c) → c.n ≡ length l → sight (Open v c.n c.bit) ≡ seen_list (w_of place) l r
+  pub list_good : {v : ℕ} → r ≡ Ok (v, c) → c.n ≡ length l → sight (Ok (record { value = v; fields = c.n; bits = c.bit })) ≡ seen_list (w_of place) l r
   unfolding sight seen_list
   list_good e g = rw (e, eq-eqb c.n (length l) g)
 
   pub list_left : {v : ℕ} (f : Refusal) → r ≡ Ok (v, c) → c.n ≢ length l → paper_refusal f ≡ carried 7 (w_of place) c.n 0
-      → sight (Shut f) ≡ seen_list (w_of place) l r
+      → sight (Err f) ≡ seen_list (w_of place) l r
   unfolding sight seen_list carried of_a_field
   list_left f e g h = rw (e, ne_eqb c.n (length l) g) (ap shut h)
 
-  pub list_no : {m : ℕ} (f : Refusal) → r ≡ Err (m, c) → paper_refusal f ≡ carried m (w_of place) c.n 0 → sight (Shut f) ≡ seen_list (w_of place) l r
+  pub list_no : {m : ℕ} (f : Refusal) → r ≡ Err (m, c) → paper_refusal f ≡ carried m (w_of place) c.n 0 → sight (Err f) ≡ seen_list (w_of place) l r
   unfolding sight seen_list
   list_no f e h = rw e (ap shut h)

@@ -30,8 +30,7 @@ use Rattle.scans.specs.Glance.{Scan}
 use Rattle.scans.specs.Glance.{Glance, first_bit, glance, glanced, Scans}
 use Rattle.scans.specs.Counts.{CountedBook}
 use Rattle.scans.proofs.Joins.{uncounted, from_first}
-use Rattle.layout.specs.declared.seeing.Finding.{Finding}
-use Rattle.layout.specs.declared.seeing.Finding.TheVariants.{Good, Shut}
+use Rattle.layout.specs.Findings.{Finding}
 use Rattle.layout.specs.Files.{Opened, good, bad, ends_at, closed_bytes, open_bytes, certificate_of, open_book, open_certificate}
 use Rattle.layout.specs.Openings.{Beside}
 use Rattle.layout.specs.Findings.{has, faulty, finding, found_in, seen_to_end, scanned_bits, BookSeen, CertificateSeen}
@@ -76,23 +75,23 @@ unfolding scanned_bits
 bits_on n e h = subst (λ x. scanned_bits x ≤ n) e h
 
 module _ (s : List ℕ) (place : W) {r : Scan} {c : Cursor} where
-  pub end_good : {v : ℕ} {b : Bool} → r ≡ Ok (v, c) → b ≡ ends_at s c.at → b ≡ true → finding (Good v) ≡ seen_to_end (w_of place) s r
+  pub end_good : {v : ℕ} {b : Bool} → r ≡ Ok (v, c) → b ≡ ends_at s c.at → b ≡ true → finding (Ok v) ≡ seen_to_end (w_of place) s r
   unfolding finding seen_to_end
   end_good e g t = rw (e, ← g, t)
 
   pub end_left : {v : ℕ} {b : Bool} (f : Refusal) → r ≡ Ok (v, c) → b ≡ ends_at s c.at → b ≡ false
-      → paper_refusal f ≡ carried 7 (w_of place) c.at 0 → finding (Shut f) ≡ seen_to_end (w_of place) s r
+      → paper_refusal f ≡ carried 7 (w_of place) c.at 0 → finding (Err f) ≡ seen_to_end (w_of place) s r
   unfolding finding seen_to_end carried of_a_field
   end_left f e g t h = rw (e, ← g, t) (ap faulty h)
 
   pub end_no : {m : ℕ} (f : Refusal) → r ≡ Err (m, c) → paper_refusal f ≡ carried m (w_of place) c.at 0
-      → finding (Shut f) ≡ seen_to_end (w_of place) s r
+      → finding (Err f) ≡ seen_to_end (w_of place) s r
   unfolding finding seen_to_end
   end_no f e h = rw e (ap faulty h)
 
 -- ---- a finding, by what was found
 
-pub finding_shut : {A : Type 0} (val : A → ℕ) (x : Opened A) {o : Finding} {r : Refusal} → finding o ≡ found_in val x → o ≡ Shut r
+pub finding_shut : {A : Type 0} (val : A → ℕ) (x : Opened A) {o : Finding} {r : Refusal} → finding o ≡ found_in val x → o ≡ Err r
     → x ≡ bad (paper_refusal r)
 unfolding finding found_in
 finding_shut val (good a fs) h e = let q = sym (ap finding e) ∙ h in let z : ◌≡◌ {A = ℕ} 0 1 = cc q in absurd (omega arith)
@@ -104,7 +103,7 @@ pub record GoodFinding {A : Type 0} (val : A → ℕ) (x : Opened A) (v : ℕ) :
   pub is : x ≡ good tree fields
   pub value : val tree ≡ v
 
-pub finding_good : {A : Type 0} (val : A → ℕ) (x : Opened A) {o : Finding} {v : ℕ} → finding o ≡ found_in val x → o ≡ Good v
+pub finding_good : {A : Type 0} (val : A → ℕ) (x : Opened A) {o : Finding} {v : ℕ} → finding o ≡ found_in val x → o ≡ Ok v
     → GoodFinding val x v
 unfolding finding found_in
 finding_good val (good a fs) h e = let q = sym (ap finding e) ∙ h in record { tree = a; fields = fs; is = refl; value = cc q }
@@ -133,7 +132,7 @@ book_seen s {x} {cs} {cs₁} h k room e = record {
         ∙ noted_first cs (call_counts b.rules) (omega arith)
 
 -- the part of the notes that a good book fills
-module _ {s counts : List ℕ} {r : Finding} {m : ℕ} (h : BookSeen s r counts) (e : r ≡ Good m) where
+module _ {s counts : List ℕ} {r : Finding} {m : ℕ} (h : BookSeen s r counts) (e : r ≡ Ok m) where
   pub few_rules : m < 256
   few_rules =
       let g = finding_good _ _ h.told e in

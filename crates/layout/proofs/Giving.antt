@@ -24,7 +24,7 @@ use Rattle.grammar.specs.Certificates.{a_certificate}
 use Rattle.terms.specs.Arity.{arity_at}
 use Rattle.terms.specs.Values.{nothing}
 use Rattle.layout.specs.Files.{within_length, where_good, Opened, good, bad, open_bytes, open_list, certificate_of, open_book, open_certificate, open_call}
-use Rattle.layout.specs.declared.Opening.{Opening}
+use Rattle.layout.specs.Openings.{Opening}
 use Rattle.answers.specs.declared.W.{W}
 use Rattle.answers.specs.declared.W.TheVariants.{Certificate, Call}
 use Rattle.layout.specs.Openings.{sight, seen, seen_bytes, seen_list, CertificateOpened, CallOpened, Beside}

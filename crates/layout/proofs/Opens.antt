@@ -23,7 +23,7 @@ use Rattle.grammar.specs.Books.{RuleBook, a_book}
 use Rattle.grammar.specs.Limits.{BookFits, call_counts}
 use Rattle.grammar.proofs.BookFields.{book_exactly}
 use Rattle.books.specs.Counts.{noted, rules_of_book, CountedBook}
-use Rattle.layout.specs.declared.Opening.{Opening}
+use Rattle.layout.specs.Openings.{Opening}
 use Rattle.answers.specs.declared.W.TheVariants.{Book}
 use Rattle.layout.specs.Files.{good, bad, ends_at, closed_bytes, open_bytes, closed_list, open_list, open_book}
 use Rattle.layout.specs.Openings.{sight, seen_bytes, BookOpened}

@@ -1,5 +1,5 @@
 -- What the judge finds of a file, where it walks by bits and asks only whether the file is good.
-use Rattle.std.specs.Prelude.{ℕ, ◌≡◌, List, cond, length, take, Ok, Err}
+use Rattle.std.specs.Prelude.{ℕ, ◌≡◌, List, cond, length, take, Result, Ok, Err}
 use Rattle.answers.specs.Carried.{refusal_at, carried}
 use Rattle.answers.specs.Numbers.{paper_refusal}
 use Rattle.patterns.specs.Reason.{Reason}
@@ -7,18 +7,21 @@ use Rattle.grammar.specs.Books.{RuleBook}
 use Rattle.grammar.specs.Limits.{call_counts}
 use Rattle.terms.specs.Values.{nothing}
 use Rattle.scans.specs.Glance.{Scan}
-use Rattle.layout.specs.declared.seeing.Finding.{Finding}
-use Rattle.layout.specs.declared.seeing.Finding.TheVariants.{Good, Shut}
+use Rattle.answers.specs.declared.Refusal.{Refusal}
 use Rattle.layout.specs.Files.{Opened, good, bad, ends_at, open_book, open_certificate}
 
 -- a number of a good file, or the refusal
+abbrev pub Finding : Type 0
+Finding = Result ℕ Refusal
+
+-- the same in 01's numbers
 pub data Found : Type 0 where
   has : (value : ℕ) → Found
   faulty : Reason → Found
 
 unfoldable pub finding : Finding → Found
-finding (Good v) = has v
-finding (Shut r) = faulty (paper_refusal r)
+finding (Ok v) = has v
+finding (Err r) = faulty (paper_refusal r)
 
 unfoldable pub found_in : {A : Type 0} → (A → ℕ) → Opened A → Found
 found_in val (good a fs) = has (val a)

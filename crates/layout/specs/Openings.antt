@@ -1,5 +1,5 @@
 -- What the code's first walk over a file comes to.
-use Rattle.std.specs.Prelude.{ℕ, ◌≡◌, List, cond, length, take, eqb, Ok, Err}
+use Rattle.std.specs.Prelude.{ℕ, ◌≡◌, List, cond, length, take, eqb, Result, Ok, Err}
 use Rattle.answers.specs.Carried.{refusal_at, carried}
 use Rattle.answers.specs.Numbers.{paper_refusal}
 use Rattle.bits.specs.Packed.{width}
@@ -8,18 +8,22 @@ use Rattle.fields.specs.Source.{Walk}
 use Rattle.grammar.specs.Books.{RuleBook}
 use Rattle.grammar.specs.Limits.{call_counts}
 use Rattle.terms.specs.Values.{nothing}
-use Rattle.layout.specs.declared.Opening.{Opening}
-use Rattle.layout.specs.declared.Opening.TheVariants.{Open, Shut}
+use Rattle.answers.specs.declared.Refusal.{Refusal}
+use Rattle.layout.specs.declared.Good.{Good}
 use Rattle.layout.specs.Files.{Opened, good, bad, ends_at, open_book, open_certificate, open_call}
 
--- a number, the fields and the bits of a good file; or the refusal
+-- what opening a file comes to: a good file's number, fields and bits, or the refusal
+abbrev pub Opening : Type 0
+Opening = Result Good Refusal
+
+-- the same in 01's numbers
 pub data Sight : Type 0 where
   sees : (value fields bits : ℕ) → Sight
   shut : Reason → Sight
 
 unfoldable pub sight : Opening → Sight
-sight (Open v n w) = sees v n w
-sight (Shut r) = shut (paper_refusal r)
+sight (Ok g) = sees g.value g.fields g.bits
+sight (Err r) = shut (paper_refusal r)
 
 unfoldable pub seen : {A : Type 0} → (A → ℕ) → Opened A → Sight
 seen val (good a fs) = sees (val a) (length fs) (width fs)
