@@ -1,3 +1,2 @@
 -- The laws of the walk over certificates.
 pub mod Cases
-pub mod Results

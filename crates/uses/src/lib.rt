@@ -1,168 +1,83 @@
-// The walk over the uses of a certificate's lines, and over where an unfold stops.
+// The walk over the uses of a certificate's lines, and over where an unfold stops, whatever hands out their fields.
 #![tactic(auto)]
 
-ghost use Rattle.std.specs.Prelude.{◌≡◌, ◌<◌, min, false};
-ghost use Rattle.fields.specs.Source.{source};
-ghost use Rattle.fields.specs.Run.{Ran};
-ghost use Rattle.terms.specs.Arity.{arity_at};
-ghost use Rattle.terms.specs.Values.{second_of, nothing};
+ghost use Rattle.std.specs.Prelude.{◌<◌};
+ghost use Rattle.fields.specs.Along.{Comes, silent};
+ghost use Rattle.terms.specs.Values.{second_of};
 ghost use Rattle.grammar.specs.Certificates.{an_index, an_instance, a_use, uses_of, a_last, a_stop, a_stopped, a_stop_at};
 
-use fields::{Walk, Walker};
+use fields::Fields;
+use terms::heads::Heads;
+use terms::signature::Signature;
 
 // The two numbers of an index pair: the second.
-fn index(s: &[u8], l: &[u16], words: &mut [u16], bytes: &mut [u8], c: Walker) -> Walk
-    ensures { Ran (source s.now l.now) an_index c words.old bytes.old second_of result words.new bytes.new }
+fn index<R: Fields>(r: &mut R) -> Result<u16, u16>
+    ensures { Comes R.steps an_index r.old second_of result r.new }
 {
-    match c.take(12, 0, 4096, 4, s, l, words, bytes) {
-        Walk::No(m, d) => Walk::No(m, d),
-        Walk::On(_, d) => d.take(12, 0, 4096, 4, s, l, words, bytes),
-    }
+    r.take(12, 0, 4096, 4)?;
+    r.take(12, 0, 4096, 4)
 }
 
 // An index pair, with a filling.
-fn instance(
-    book: &[u8],
-    s: &[u8],
-    l: &[u16],
-    words: &mut [u16],
-    bytes: &mut [u8],
-    c: Walker,
-) -> Walk
-    ensures { Ran (source s.now l.now) (an_instance (arity_at book.now l.now false)) c words.old bytes.old nothing result words.new bytes.new }
+fn instance<R: Heads, G: Signature>(r: &mut R, book: G) -> Result<(), u16>
+    ensures { Comes R.steps (an_instance (G.arities book)) r.old silent result r.new }
 {
-    match index(s, l, words, bytes, c) {
-        Walk::No(m, d) => Walk::No(m, d),
-        Walk::On(_, d) => terms::filling(book, s, l, words, bytes, d),
-    }
+    index(r)?;
+    terms::filling(r, book)
 }
 
 // A use of a line before `line`.
-pub fn use_line(
-    book: &[u8],
-    s: &[u8],
-    l: &[u16],
-    words: &mut [u16],
-    bytes: &mut [u8],
-    c: Walker,
-    line: u16,
-) -> Walk
-    ensures { Ran (source s.now l.now) (a_use (arity_at book.now l.now false) line) c words.old bytes.old nothing result words.new bytes.new }
+pub fn use_line<R: Heads, G: Signature>(r: &mut R, book: G, line: u16) -> Result<(), u16>
+    ensures { Comes R.steps (a_use (G.arities book) line) r.old silent result r.new }
 {
-    match c.take(8, 0, line, 4, s, l, words, bytes) {
-        Walk::No(m, d) => Walk::No(m, d),
-        Walk::On(_, d) => instance(book, s, l, words, bytes, d),
-    }
+    r.take(8, 0, line, 4)?;
+    instance(r, book)
 }
 
 // The n uses before the call where an unfold stops.
-fn uses(
-    book: &[u8],
-    s: &[u8],
-    l: &[u16],
-    words: &mut [u16],
-    bytes: &mut [u8],
-    c: Walker,
-    line: u16,
-    n: usize,
-) -> Walk
-    ensures { Ran (source s.now l.now) (uses_of (arity_at book.now l.now false) line n) c words.old bytes.old nothing result words.new bytes.new }
+fn uses<R: Heads, G: Signature>(r: &mut R, book: G, line: u16, n: u16) -> Result<(), u16>
+    ensures { Comes R.steps (uses_of (G.arities book) line n) r.old silent result r.new }
 {
-    if n == 0 {
-        return Walk::On(0, c);
+    for _ in 0..n {
+        use_line(r, book, line)?;
     }
-    match use_line(book, s, l, words, bytes, c, line) {
-        Walk::No(m, d) => Walk::No(m, d),
-        Walk::On(_, d) => uses(book, s, l, words, bytes, d, line, n - 1),
-    }
+    Ok(())
 }
 
 // The use at the call where an unfold stops, if there is one.
-fn last(
-    book: &[u8],
-    s: &[u8],
-    l: &[u16],
-    words: &mut [u16],
-    bytes: &mut [u8],
-    c: Walker,
-    line: u16,
-) -> Walk
-    ensures { Ran (source s.now l.now) (a_last (arity_at book.now l.now false) line) c words.old bytes.old nothing result words.new bytes.new }
+fn last<R: Heads, G: Signature>(r: &mut R, book: G, line: u16) -> Result<(), u16>
+    ensures { Comes R.steps (a_last (G.arities book) line) r.old silent result r.new }
 {
-    match c.take(1, 0, 2, 4, s, l, words, bytes) {
-        Walk::No(m, d) => Walk::No(m, d),
-        Walk::On(b, d) => match b {
-            0 => Walk::On(0, d),
-            _ => use_line(book, s, l, words, bytes, d, line),
-        },
+    match r.take(1, 0, 2, 4)? {
+        0 => Ok(()),
+        _ => use_line(r, book, line),
     }
 }
 
 // The uses of an unfold that stops at i; at 0 there are none.
-fn stop(
-    book: &[u8],
-    s: &[u8],
-    l: &[u16],
-    words: &mut [u16],
-    bytes: &mut [u8],
-    c: Walker,
-    line: u16,
-    i: usize,
-) -> Walk
-    ensures { Ran (source s.now l.now) (a_stop (arity_at book.now l.now false) line i) c words.old bytes.old nothing result words.new bytes.new }
+fn stop<R: Heads, G: Signature>(r: &mut R, book: G, line: u16, i: u16) -> Result<(), u16>
+    ensures { Comes R.steps (a_stop (G.arities book) line i) r.old silent result r.new }
 {
     if i == 0 {
-        return Walk::On(0, c);
+        return Ok(());
     }
-    match uses(book, s, l, words, bytes, c, line, i - 1) {
-        Walk::No(m, d) => Walk::No(m, d),
-        Walk::On(_, d) => last(book, s, l, words, bytes, d, line),
-    }
+    uses(r, book, line, i - 1)?;
+    last(r, book, line)
 }
 
 // The filling and the uses of an unfold that stops at i.
-fn stopped(
-    book: &[u8],
-    s: &[u8],
-    l: &[u16],
-    words: &mut [u16],
-    bytes: &mut [u8],
-    c: Walker,
-    line: u16,
-    i: usize,
-) -> Walk
-    ensures { Ran (source s.now l.now) (a_stopped (arity_at book.now l.now false) line i) c words.old bytes.old nothing result words.new bytes.new }
+fn stopped<R: Heads, G: Signature>(r: &mut R, book: G, line: u16, i: u16) -> Result<(), u16>
+    ensures { Comes R.steps (a_stopped (G.arities book) line i) r.old silent result r.new }
 {
-    match terms::filling(book, s, l, words, bytes, c) {
-        Walk::No(m, d) => Walk::No(m, d),
-        Walk::On(_, d) => stop(book, s, l, words, bytes, d, line, i),
-    }
-}
-
-// The least stop at a rule of m calls.
-fn least_stop(m: u16) -> u16
-    ensures { result ≡ min m 1 }
-{
-    if m == 0 { 0 } else { 1 }
+    terms::filling(r, book)?;
+    stop(r, book, line, i)
 }
 
 // The stop of an unfold by a rule of m calls, with its filling and its uses.
-pub fn stop_at(
-    book: &[u8],
-    s: &[u8],
-    l: &[u16],
-    words: &mut [u16],
-    bytes: &mut [u8],
-    c: Walker,
-    line: u16,
-    m: u16,
-) -> Walk
+pub fn stop_at<R: Heads, G: Signature>(r: &mut R, book: G, line: u16, m: u16) -> Result<(), u16>
     requires { m < 256 }
-    ensures { Ran (source s.now l.now) (a_stop_at (arity_at book.now l.now false) line m) c words.old bytes.old nothing result words.new bytes.new }
+    ensures { Comes R.steps (a_stop_at (G.arities book) line m) r.old silent result r.new }
 {
-    let least = least_stop(m);
-    match c.take(4, least, m + 1, 4, s, l, words, bytes) {
-        Walk::No(m, d) => Walk::No(m, d),
-        Walk::On(i, d) => stopped(book, s, l, words, bytes, d, line, i),
-    }
+    let i = r.take(4, m.min(1), m + 1, 4)?;
+    stopped(r, book, line, i)
 }

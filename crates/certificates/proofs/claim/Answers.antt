@@ -1,13 +1,14 @@
 -- `certificates::claim` meets its contract.
 use mathlib.Core.Path.{refl}
-use Rattle.fields.proofs.Seqs.{seq_no, seq_on, seq_last}
+use Rattle.std.proofs.Common.{rules}
+use Rattle.fields.proofs.Alongs.{seq_no, seq_on, seq_last}
 use Rattle.grammar.specs.Certificates.{a_claim}
 use Rattle.certificates.proofs.claim.Goals as goal
 
-pub returns-in-No : goal.returns-in-No
+pub returns-in_err-any_term : goal.returns-in_err-any_term
 unfolding a_claim
-returns-in-No c = seq_no c.side.ensures _ c.in-No.is
+returns-in_err-any_term g c = seq_no c.any_term.ensures _ c.in_err-any_term.was (search rules)
 
-pub returns-in-On : goal.returns-in-On
+pub returns : goal.returns
 unfolding a_claim
-returns-in-On c = seq_on c.side.ensures _ c.in-On.is (λ x q. seq_last _ (λ y. refl) c.right.ensures)
+returns g c = seq_on c.any_term.ensures _ c.in_ok-any_term.was (λ x q. seq_last _ (λ y. refl) c.right.ensures)

@@ -1,13 +1,14 @@
 -- `certificates::descent` meets its contract.
 use mathlib.Core.Path.{refl}
-use Rattle.fields.proofs.Seqs.{seq_no, seq_on, seq_last}
+use Rattle.std.proofs.Common.{rules}
+use Rattle.fields.proofs.Alongs.{seq_no, seq_on, seq_last}
 use Rattle.grammar.specs.Certificates.{a_descent}
 use Rattle.certificates.proofs.descent.Goals as goal
 
-pub returns-in-No : goal.returns-in-No
+pub returns-in_err-use_line : goal.returns-in_err-use_line
 unfolding a_descent
-returns-in-No c = seq_no c.use_line.ensures _ c.in-No.is
+returns-in_err-use_line g c = seq_no c.use_line.ensures _ c.in_err-use_line.was (search rules)
 
-pub returns-in-On : goal.returns-in-On
+pub returns : goal.returns
 unfolding a_descent
-returns-in-On c = seq_on c.use_line.ensures _ c.in-On.is (λ x q. seq_last _ (λ y. refl) c.fall.ensures)
+returns g c = seq_on c.use_line.ensures _ c.in_ok-use_line.was (λ x q. seq_last _ (λ y. refl) c.fall.ensures)

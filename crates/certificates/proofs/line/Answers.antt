@@ -1,15 +1,16 @@
 -- `certificates::line` meets its contract.
-use Rattle.fields.proofs.Seqs.{seq_no, seq_at}
-use Rattle.grammar.specs.Certificates.{a_line}
 use native.Mathlib.Omega.{arith}
+use Rattle.std.proofs.Common.{rules}
 use Rattle.fields.specs.Kinds.{FieldKind as kind}
 use Rattle.fields.proofs.Ranges.{any_bounded}
+use Rattle.fields.proofs.Alongs.{seq_no, seq_at}
+use Rattle.grammar.specs.Certificates.{a_line}
 use Rattle.certificates.proofs.line.Goals as goal
 
-pub returns-in-No : goal.returns-in-No
+pub returns-in_err-tag : goal.returns-in_err-tag
 unfolding a_line
-returns-in-No c = seq_no (c.take.ensures.ran _ _ (any_bounded kind.line_kind (omega arith))) _ c.in-No.is
+returns-in_err-tag g c = seq_no (c.take.ensures.comes _ _ (any_bounded kind.line_kind (omega arith))) _ c.in_err-tag.was (search rules)
 
-pub returns-in-On : goal.returns-in-On
+pub returns : goal.returns
 unfolding a_line
-returns-in-On c = seq_at _ (c.take.ensures.ran _ _ (any_bounded kind.line_kind (omega arith))) c.in-On.is c.line_of.ensures
+returns g c = seq_at _ (c.take.ensures.comes _ _ (any_bounded kind.line_kind (omega arith))) c.in_ok-tag.was c.line_of.ensures

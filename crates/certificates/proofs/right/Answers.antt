@@ -1,21 +1,25 @@
 -- `certificates::right` meets its contract.
-use mathlib.Core.Path.{refl}
-use Rattle.fields.proofs.Seqs.{seq_no, seq_at, seq_last, ran_done}
-use Rattle.grammar.specs.Certificates.{a_right}
-use Rattle.certificates.proofs.Cases.{right_empty, right_term}
 use native.Mathlib.Omega.{arith}
+use Rattle.std.proofs.Common.{rules}
 use Rattle.fields.specs.Kinds.{FieldKind as kind}
 use Rattle.fields.proofs.Ranges.{any_bounded}
+use Rattle.fields.proofs.Alongs.{seq_no, seq_at}
+use Rattle.grammar.specs.Certificates.{a_right}
+use Rattle.certificates.proofs.Cases.{right_empty, right_no, right_term}
 use Rattle.certificates.proofs.right.Goals as goal
 
-pub returns-in-No : goal.returns-in-No
+pub returns-in_err-take : goal.returns-in_err-take
 unfolding a_right
-returns-in-No c = seq_no (c.take.ensures.ran _ _ (any_bounded kind.right_bit (omega arith))) _ c.in-No.is
+returns-in_err-take g c = seq_no (c.take.ensures.comes _ _ (any_bounded kind.right_bit (omega arith))) _ c.in_err-take.was (search rules)
 
 pub returns-in-0 : goal.returns-in-0
 unfolding a_right
-returns-in-0 c = seq_at _ (c.take.ensures.ran _ _ (any_bounded kind.right_bit (omega arith))) c.in-On.is (rw (right_empty _ _ c.in-0.is) (ran_done _ _ _ _))
+returns-in-0 g c = seq_at _ (c.take.ensures.comes _ _ (any_bounded kind.right_bit (omega arith))) c.in_ok-take.was (right_empty _ c.in-0.is)
 
-pub returns-in_default : goal.returns-in_default
+pub returns-in_err-any_term-in_default : goal.returns-in_err-any_term-in_default
 unfolding a_right
-returns-in_default c = seq_at _ (c.take.ensures.ran _ _ (any_bounded kind.right_bit (omega arith))) c.in-On.is (rw (right_term _ _ c.in_default.in_default-own.rest.1) (seq_last _ (λ g. refl) c.side.ensures))
+returns-in_err-any_term-in_default g c = seq_at _ (c.take.ensures.comes _ _ (any_bounded kind.right_bit (omega arith))) c.in_ok-take.was (right_no _ (λ z. omega arith) c.any_term.ensures c.in_err-any_term-in_default.was (search rules))
+
+pub returns-in_ok-any_term-in_default : goal.returns-in_ok-any_term-in_default
+unfolding a_right
+returns-in_ok-any_term-in_default g c = seq_at _ (c.take.ensures.comes _ _ (any_bounded kind.right_bit (omega arith))) c.in_ok-take.was (right_term _ (λ z. omega arith) c.any_term.ensures c.in_ok-any_term-in_default.was)

@@ -1,15 +1,15 @@
 -- `certificates::unfold` meets its contract.
 use mathlib.Core.Path.{refl}
-use Rattle.fields.proofs.Seqs.{seq_no, seq_at, seq_last}
+use Rattle.std.proofs.Common.{rules}
+use Rattle.fields.proofs.Alongs.{seq_no, seq_at, seq_last}
 use Rattle.grammar.specs.Certificates.{an_unfold}
-use Rattle.fields.specs.Kinds.{FieldKind as kind}
-use Rattle.fields.proofs.Ranges.{from_to_bounded}
+use Rattle.certificates.proofs.Cases.{rule_bounded}
 use Rattle.certificates.proofs.unfold.Goals as goal
 
-pub returns-in-No : goal.returns-in-No
+pub returns-in_err-k : goal.returns-in_err-k
 unfolding an_unfold
-returns-in-No c = seq_no (c.take.ensures.ran _ _ (from_to_bounded kind.rule _ _)) _ c.in-No.is
+returns-in_err-k g c = seq_no (c.take.ensures.comes _ _ (rule_bounded _ c.min-end.ensures)) _ c.in_err-k.was (search rules)
 
-pub returns-in-On : goal.returns-in-On
+pub returns : goal.returns
 unfolding an_unfold
-returns-in-On c = seq_at _ (c.take.ensures.ran _ _ (from_to_bounded kind.rule _ _)) c.in-On.is (seq_last _ (λ q. refl) (rw (← c.calls-m.ensures.counted) c.stop_at.ensures))
+returns g c = seq_at _ (c.take.ensures.comes _ _ (rule_bounded _ c.min-end.ensures)) c.in_ok-k.was (seq_last _ (λ q. refl) (rw (← c.calls.ensures.counted) c.stop_at.ensures))

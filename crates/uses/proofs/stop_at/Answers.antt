@@ -1,14 +1,15 @@
 -- `uses::stop_at` meets its contract.
-use Rattle.fields.proofs.Seqs.{seq_no, seq_at}
-use Rattle.grammar.specs.Certificates.{a_stop_at}
+use Rattle.std.proofs.Common.{rules}
 use Rattle.fields.specs.Kinds.{FieldKind as kind}
 use Rattle.fields.proofs.Ranges.{from_to_bounded}
+use Rattle.fields.proofs.Alongs.{seq_no, seq_at}
+use Rattle.grammar.specs.Certificates.{a_stop_at}
 use Rattle.uses.proofs.stop_at.Goals as goal
 
-pub returns-in-No : goal.returns-in-No
+pub returns-in_err-i : goal.returns-in_err-i
 unfolding a_stop_at
-returns-in-No c = rw (← c.least_stop-least.ensures) (seq_no (c.take.ensures.ran _ _ (from_to_bounded kind.stop_number _ _)) _ c.in-No.is)
+returns-in_err-i g c = rw (← c.min.ensures) (seq_no (c.take.ensures.comes _ _ (from_to_bounded kind.stop_number _ _)) _ c.in_err-i.was (search rules))
 
-pub returns-in-On : goal.returns-in-On
+pub returns : goal.returns
 unfolding a_stop_at
-returns-in-On c = rw (← c.least_stop-least.ensures) (seq_at _ (c.take.ensures.ran _ _ (from_to_bounded kind.stop_number _ _)) c.in-On.is c.stopped.ensures)
+returns g c = rw (← c.min.ensures) (seq_at _ (c.take.ensures.comes _ _ (from_to_bounded kind.stop_number _ _)) c.in_ok-i.was c.stopped.ensures)
