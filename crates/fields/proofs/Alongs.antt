@@ -141,6 +141,15 @@ module _ {A V S : Type 0} {st : Steps S} {p : Grammar A} {x y : S} {val : A → 
   unfolding told_at shown
   comes_no e q = record { told = ap (λ z. told_at z y) q ∙ ap (shown val) (sym e) }
 
+-- ---- another value, where what was found has it whatever it is
+
+module _ {A V W S : Type 0} {st : Steps S} {p : Grammar A} {x y : S} {val : A → V} {val₂ : A → W} {r : Result V ℕ} (h : Comes st p x val r y) where
+  pub told_on_with : (w : W) → ((a : A) → val₂ a ≡ w) → {v : V} → r ≡ Ok v → Comes st p x val₂ (Ok w) y
+  told_on_with w same e = let f = found h e in comes_ok f.2 (λ i. Ok (sym (same f.0) i))
+
+  pub told_no_with : {m : ℕ} → r ≡ Err m → Comes st p x val₂ (Err m) y
+  told_no_with e = comes_no (refused h e) refl
+
 -- ---- a field
 
 module _ {V S : Type 0} {st : Steps S} (k : FieldKind) (r : Range) {val : ℕ → V} {x : S} (allowed : spent r ≡ false) where

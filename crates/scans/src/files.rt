@@ -2,7 +2,9 @@
 ghost use Rattle.std.specs.Prelude.{false, []};
 ghost use Rattle.terms.specs.Arity.{arity_at};
 ghost use Rattle.books.specs.Counts.{rules_of_book};
+ghost use Rattle.terms.specs.Values.{nothing};
 ghost use Rattle.grammar.specs.Books.{a_book};
+ghost use Rattle.grammar.specs.Certificates.{a_certificate};
 ghost use Rattle.scans.specs.Glance.{first_bit, Scans};
 ghost use Rattle.scans.specs.Counts.{CountedBook};
 
@@ -21,6 +23,20 @@ pub fn book(s: &[u8], counts: &mut [u8]) -> Scan
     };
     match books::book(&mut file, Packed { book: s }, counts) {
         Ok(n) => Ok((n, file.cursor)),
+        Err(m) => Err((m, file.cursor)),
+    }
+}
+
+// A certificate, beside its book: the arities stand in the book's bytes, and `counts` tells how many calls each of its rules has.
+pub fn certificate(book: &[u8], counts: &[u8], s: &[u8]) -> Scan
+    ensures { Scans s.now (a_certificate (arity_at book.now [] false) counts.now) first_bit nothing result }
+{
+    let mut file = Scanner {
+        s,
+        cursor: Cursor { at: 0 },
+    };
+    match certificates::certificate(&mut file, Packed { book }, counts) {
+        Ok(()) => Ok((0, file.cursor)),
         Err(m) => Err((m, file.cursor)),
     }
 }
