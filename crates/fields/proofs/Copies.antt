@@ -1,7 +1,7 @@
 -- A copier's walk is the run of the grammar over its source, with its outputs.
 use Rattle.std.specs.Prelude.{Result as Either, Ok, Err}
 use Prim.Native.Nat.{ℕ}
-use mathlib.Core.Path.{◌≡◌, refl, sym, ap, ◌∙◌}
+use mathlib.Core.Path.{◌≡◌, refl, sym, ap, ◌∙◌, subst}
 use mathlib.Core.Option.{Option, none, some}
 use native.Mathlib.Omega.{arith}
 use Rattle.fields.specs.declared.copier.Copier.{Copier}
@@ -14,7 +14,7 @@ use Rattle.fields.specs.Run.{shown as shown_run}
 use Rattle.fields.specs.Run.Result.{ok as ok_run, no as no_run}
 use Rattle.fields.specs.Along.{End, asked, along, shown, told_at, Comes}
 use Rattle.fields.specs.Along.End.{ok, no}
-use Rattle.fields.specs.Copying.{copying, copied, walk_of}
+use Rattle.fields.specs.Copying.{copying, copied, walk_of, SameOutputs}
 
 -- where a copier stands, with its outputs
 abbrev pub state_of : Copier → State
@@ -71,3 +71,42 @@ pub copier_ran : {A : Type 0} {p : Grammar A} {x y : Copier} {val : A → ℕ} {
 copier_ran {p = p} {x = x} {y = y} {val = val} {r = r} h = record {
   told = sym (showing_told r y) ∙ ap showing h.told ∙ showing_shown val (along copying p x) ∙ ap (shown_run val) (same_run p x);
 }
+
+-- ---- the outputs that were lent stay the same
+
+unfoldable kept : {A : Type 0} → Copier → End A Copier → Type 0
+kept x (ok a y) = SameOutputs x y
+kept x (no m y) = SameOutputs x y
+
+kept_along : {A : Type 0} (p : Grammar A) (x : Copier) → kept x (along copying p x)
+unfolding along kept
+kept_along (done a) x = record { words = refl; bytes = refl }
+kept_along {A} (ask k r next) x = go (λ v. kept_along (next v) (copied (bits k) v x)) (asked copying k r x)
+  where
+    on : (v : ℕ) (e : End A Copier) → kept (copied (bits k) v x) e → kept x e
+    on v (ok a y) h = record { words = h.words; bytes = h.bytes }
+    on v (no m y) h = record { words = h.words; bytes = h.bytes }
+
+    under : (v : ℕ) → kept (copied (bits k) v x) (along copying (next v) (copied (bits k) v x)) → (o : Option ℕ)
+        → kept x (tested o (along copying (next v) (copied (bits k) v x)) (λ m. no m x))
+    under v h none = on v (along copying (next v) (copied (bits k) v x)) h
+    under v h (some m) = record { words = refl; bytes = refl }
+
+    go : ((v : ℕ) → kept (copied (bits k) v x) (along copying (next v) (copied (bits k) v x))) → (f : Field)
+        → kept x (on_field f (λ v. tested (test r v) (along copying (next v) (copied (bits k) v x)) (λ m. no m x)) (λ m. no m x))
+    go ih (Ok v) = under v (ih v) (test r v)
+    go ih (Err m) = record { words = refl; bytes = refl }
+
+kept_shown : {A V : Type 0} (x : Copier) (val : A → V) (e : End A Copier) → kept x e → kept x (shown val e)
+unfolding kept shown
+kept_shown x val (ok a y) h = h
+kept_shown x val (no m y) h = h
+
+kept_told : {V : Type 0} (x y : Copier) (r : Either V ℕ) → kept x (told_at r y) → SameOutputs x y
+unfolding kept told_at
+kept_told x y (Ok v) h = h
+kept_told x y (Err m) h = h
+
+pub copier_keeps : {A V : Type 0} {p : Grammar A} {x y : Copier} {val : A → V} {r : Either V ℕ} → Comes copying p x val r y → SameOutputs x y
+copier_keeps {p = p} {x = x} {y = y} {val = val} {r = r} h =
+    kept_told x y r (subst (kept x) (sym h.told) (kept_shown x val (along copying p x) (kept_along p x)))

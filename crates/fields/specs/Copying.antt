@@ -1,5 +1,5 @@
 -- A copier as a place: the field that stands there, and the copier past it, which has put the field into both outputs.
-use Rattle.std.specs.Prelude.{ℕ, set, Result, Ok, Err}
+use Rattle.std.specs.Prelude.{ℕ, ◌≡◌, set, Result, Ok, Err}
 use Rattle.bits.specs.Put.{put_field}
 use Rattle.fields.specs.declared.copier.Copier.{Copier}
 use Rattle.fields.specs.declared.Walker.{Walker}
@@ -27,3 +27,8 @@ copying = record { at = field_before; past = copied }
 abbrev pub walk_of : Result ℕ ℕ → Walker → Walk
 walk_of (Ok v) c = Ok (v, c)
 walk_of (Err m) c = Err (m, c)
+
+-- both outputs are still the ones that were lent
+pub record SameOutputs (x y : Copier) : Type 0 where
+  pub words : y.words.ghost_name ≡ x.words.ghost_name
+  pub bytes : y.bytes.ghost_name ≡ x.bytes.ghost_name

@@ -6,6 +6,7 @@ ghost use Rattle.fields.specs.Source.{listed_field, start};
 use crate::{Field, Fields, Walker};
 
 // The source, bytes and a list of which one is walked over; how far the walk has come; and the outputs.
+#[derive(Drop)]
 pub struct Copier<'a> {
     pub s: &'a [u8],
     pub l: &'a [u16],

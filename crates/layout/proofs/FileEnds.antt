@@ -46,7 +46,8 @@ module _ (s : List ℕ) (bit : ℕ) where
       let w : 8 * length s - bit ≤ 16 = omega arith in
       let r : bit + (8 * length s - bit) ≤ room_of s = omega arith in
       let p = sym (read_yes s (8 * length s - bit) bit w r) ∙ sym g ∙ e in
-      let q : bits_at s bit (8 * length s - bit) ≡ v = cc p in
+      let t : ◌≡◌ {A = ℕ × Rattle.bits.specs.declared.Cursor.Cursor} (bits_at s bit (8 * length s - bit), record { at = bit + (8 * length s - bit) }) (v, c) = cc p in
+      let q : bits_at s bit (8 * length s - bit) ≡ v = ap (λ (u : ℕ × Rattle.bits.specs.declared.Cursor.Cursor). u.0) t in
       rw (eq-eqb (length s) (bytes_for bit) h, q)
 
   pub ends_past : length s ≡ (bit + 7) / 8 → {f : Bits} → bit ≤ 2 ^ 32 → bit ≤ 8 * length s

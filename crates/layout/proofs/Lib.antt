@@ -1,6 +1,6 @@
 -- The laws of reading and writing.
 pub mod FileEnds
-pub mod Walks
+pub mod Copying
 pub mod Answering
 pub mod Opens
 pub mod Giving

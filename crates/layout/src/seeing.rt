@@ -8,12 +8,8 @@ use crate::ends;
 use answers::{Refusal, W};
 use scans::Scan;
 
-// A good file: a number of it. Or its refusal.
-#[derive(Clone, Copy)]
-pub enum Finding {
-    Good(usize),
-    Shut(Refusal),
-}
+// A number of a good file; or its refusal.
+pub type Finding = Result<usize, Refusal>;
 
 // What a walk over a file's bits comes to, once the end of the file is looked at.
 fn looked(s: &[u8], file: W, scan: Scan) -> Finding
@@ -21,13 +17,12 @@ fn looked(s: &[u8], file: W, scan: Scan) -> Finding
     ensures { finding result ≡ seen_to_end (w_of file) s.now scan }
 {
     match scan {
-        Scan::No(m, c) => Finding::Shut(answers::carried(m, file, c.at, 0)),
-        Scan::On(v, c) => {
-            let bit = c.at;
-            if ends(s, bit) {
-                return Finding::Good(v);
+        Err((m, c)) => Err(answers::carried(m, file, c.at, 0)),
+        Ok((v, c)) => {
+            if ends(s, c.at) {
+                return Ok(v);
             }
-            Finding::Shut(answers::carried(7, file, bit, 0))
+            Err(answers::carried(7, file, c.at, 0))
         }
     }
 }
@@ -37,7 +32,7 @@ pub fn see_book(s: &[u8], counts: &mut [u8]) -> Finding
     requires { 256 ≤ length counts.old }
     ensures { BookSeen s.now result counts.new }
 {
-    let scan = scans::rulebook::book(s, counts);
+    let scan = scans::files::book(s, counts);
     looked(s, W::Book, scan)
 }
 
@@ -46,6 +41,6 @@ pub fn see_certificate(book: &[u8], counts: &[u8], s: &[u8]) -> Finding
     requires { Beside book.now counts.now }
     ensures { CertificateSeen book.now s.now result }
 {
-    let scan = scans::closings::certificate(book, counts, s);
+    let scan = scans::files::certificate(book, counts, s);
     looked(s, W::Certificate, scan)
 }

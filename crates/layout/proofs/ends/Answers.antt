@@ -6,8 +6,8 @@ use Rattle.layout.proofs.ends.Goals as goal
 pub returns-then-s-bit : goal.returns-then-s-bit
 returns-then-s-bit c = sym (ends_long _ _ c.if-s-bit.true)
 
-pub returns-in-Past : goal.returns-in-Past
-returns-in-Past c = sym (ends_past _ _ c.if-s-bit.false c.requires.0 c.requires.1 c.take.ensures c.in-Past.is)
+pub returns-in-None : goal.returns-in-None
+returns-in-None c = sym (ends_past _ _ c.if-s-bit.false c.requires.0 c.requires.1 c.take.ensures c.in-None.is)
 
-pub returns-in-Got : goal.returns-in-Got
-returns-in-Got c = sym (ends_read _ _ c.if-s-bit.false c.requires.0 c.requires.1 c.take.ensures c.in-Got.is)
+pub returns-in-Some : goal.returns-in-Some
+returns-in-Some c = sym (ends_read _ _ c.if-s-bit.false c.requires.0 c.requires.1 c.take.ensures c.in-Some.is)

@@ -1,12 +1,8 @@
 -- `layout::open_certificate` meets its contract.
 use Rattle.layout.proofs.Giving.{certificate_opened}
 use Rattle.layout.proofs.FileEnds.{inside_bytes}
-use Rattle.layout.proofs.Besides.{few_counts, beside_ran}
-use mathlib.Core.List.{[]}
+use Rattle.layout.proofs.Besides.{beside_ran}
 use Rattle.layout.proofs.open_certificate.Goals as goal
-
-pub certificate-w-requires : goal.certificate-w-requires
-certificate-w-requires c = few_counts _ [] _ c.requires.0
 
 pub opened-requires : goal.opened-requires
 opened-requires c = inside_bytes _ _ _ (beside_ran _ _ _ c.requires.0 c.certificate-w.ensures)

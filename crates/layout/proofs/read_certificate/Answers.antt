@@ -1,13 +1,13 @@
 -- `layout::read_certificate` meets its contract.
 use lib.ListN.{length-take}
-use mathlib.Core.Path.{refl, ◌∙◌}
+use mathlib.Core.Path.{◌≡◌, refl, ◌∙◌}
 use native.Mathlib.Omega.{arith}
 use Rattle.answers.specs.Numbers.{w_of}
 use Rattle.layout.proofs.Besides.{few_rules, is_beside}
 use Rattle.layout.proofs.Answering.{answers_shut, answers_refusal, opening_shut}
 use Rattle.layout.proofs.Giving.{certificate_book_long, certificate_long, certificate_read, listing_bad}
 use Rattle.answers.proofs.Refusing.{refused_answer}
-use Rattle.std.proofs.Common.{rules}
+use Rattle.std.proofs.Common.{rules, Err}
 use Rattle.layout.proofs.read_certificate.Goals as goal
 
 pub returns-then-book-gt16384 : goal.returns-then-book-gt16384
@@ -19,16 +19,16 @@ unfolding w_of
 returns-then-certificate-gt32768 c = record { book_bytes = λ i. (c.type_inv.book i).fits; bytes = λ i. (c.type_inv.certificate i).fits; answers = answers_refusal _ _ _ _ (certificate_long _ _ c.if-book-gt16384.false c.if-certificate-gt32768.true) (refused_answer _ c.whole-then-certificate-gt32768.ensures) }
 
 pub slice_bounds-counts-end : goal.slice_bounds-counts-end
-slice_bounds-counts-end c = let h = few_rules c.open_book.ensures c.in-Open.is in search rules
+slice_bounds-counts-end c = let h = few_rules c.open_book.ensures c.in_ok-file.was in search rules
 
 pub slice_bounds-list_certificate-end : goal.slice_bounds-list_certificate-end
-slice_bounds-list_certificate-end c = let h = few_rules c.open_book.ensures c.in-Open.is in omega (arith, length-take c.in-Open.m c.open_book.new.counts)
+slice_bounds-list_certificate-end c = let h = few_rules c.open_book.ensures c.in_ok-file.was in omega (arith, length-take c.in_ok-file.file.value c.open_book.new.counts)
 
 pub list_certificate-requires : goal.list_certificate-requires
-list_certificate-requires c = (is_beside c.open_book.ensures c.in-Open.is refl, omega (arith, c.if-certificate-gt32768.false))
+list_certificate-requires c = (is_beside c.open_book.ensures c.in_ok-file.was refl, omega (arith, c.if-certificate-gt32768.false))
 
-pub returns-in-Shut : goal.returns-in-Shut
-returns-in-Shut c = record { book_bytes = λ i. (c.type_inv.book i).fits; bytes = λ i. (c.type_inv.certificate i).fits; answers = answers_shut _ _ _ _ (certificate_read _ _ c.if-book-gt16384.false c.if-certificate-gt32768.false ∙ listing_bad _ _ (opening_shut _ _ c.open_book.ensures.told c.in-Shut.is)) }
+pub returns-in_err-file : goal.returns-in_err-file
+returns-in_err-file c = let e : c.from_residual.result ≡ Err c.in_err-file.field-0.0 = search rules in record { book_bytes = λ i. (c.type_inv.book i).fits; bytes = λ i. (c.type_inv.certificate i).fits; answers = rw e (answers_shut _ _ _ _ (certificate_read _ _ c.if-book-gt16384.false c.if-certificate-gt32768.false ∙ listing_bad _ _ (opening_shut _ _ c.open_book.ensures.told c.in_err-file.was))) }
 
-pub returns-in-Open : goal.returns-in-Open
-returns-in-Open c = record { book_bytes = λ i. (c.type_inv.book i).fits; bytes = λ i. (c.type_inv.certificate i).fits; answers = rw (certificate_read _ _ c.if-book-gt16384.false c.if-certificate-gt32768.false) c.list_certificate.ensures }
+pub returns : goal.returns
+returns c = record { book_bytes = λ i. (c.type_inv.book i).fits; bytes = λ i. (c.type_inv.certificate i).fits; answers = rw (certificate_read _ _ c.if-book-gt16384.false c.if-certificate-gt32768.false) c.list_certificate.ensures }

@@ -1,6 +1,8 @@
+-- `layout::write_book` meets its contract.
+use Rattle.std.proofs.Common.{rules, Err}
 use Rattle.layout.proofs.GoodFiles.{packed_over, packed_short, packed_filled}
 use native.Mathlib.Omega.{arith}
-use mathlib.Core.Path.{refl}
+use mathlib.Core.Path.{◌≡◌, refl}
 use Rattle.answers.specs.Numbers.{w_of}
 use Rattle.patterns.specs.Reason.{book_place}
 use Rattle.grammar.specs.Books.{a_book}
@@ -14,16 +16,16 @@ use Rattle.layout.proofs.write_book.Goals as goal
 
 pub returns-then-n-gt16384 : goal.returns-then-n-gt16384
 unfolding w_of writing_book
-returns-then-n-gt16384 c = let g = opening_good _ _ (list_told _ a_book rules_of_book _ Book c.book-w.ensures.walked c.opened_list.ensures) c.in-Open.is in record { answers = packed_over book_place a_book _ g 16384 refl _ (omega (arith, c.if-n-gt16384.true, c.bytes_for-n.ensures)) (refused_answer _ c.whole.ensures) }
+returns-then-n-gt16384 c = let g = opening_good _ _ (list_told _ a_book rules_of_book _ Book c.book-w.ensures.walked c.opened_list.ensures) c.in_ok-file.was in record { answers = packed_over book_place a_book _ g 16384 refl _ (omega (arith, c.if-n-gt16384.true, c.bytes_for-n.ensures)) (refused_answer _ c.whole.ensures) }
 
 pub returns-then-n-out : goal.returns-then-n-out
 unfolding w_of writing_book
-returns-then-n-out c = let g = opening_good _ _ (list_told _ a_book rules_of_book _ Book c.book-w.ensures.walked c.opened_list.ensures) c.in-Open.is in record { answers = packed_short book_place a_book _ g 16384 refl _ (omega (arith, c.if-n-gt16384.false, c.bytes_for-n.ensures)) (omega (arith, c.if-n-out.true, c.bytes_for-n.ensures)) (refused_answer _ c.whole-then-n-out.ensures) }
+returns-then-n-out c = let g = opening_good _ _ (list_told _ a_book rules_of_book _ Book c.book-w.ensures.walked c.opened_list.ensures) c.in_ok-file.was in record { answers = packed_short book_place a_book _ g 16384 refl _ (omega (arith, c.if-n-gt16384.false, c.bytes_for-n.ensures)) (omega (arith, c.if-n-out.true, c.bytes_for-n.ensures)) (refused_answer _ c.whole-then-n-out.ensures) }
 
-pub returns-in-Shut : goal.returns-in-Shut
+pub returns-in_err-file : goal.returns-in_err-file
 unfolding w_of writing_book
-returns-in-Shut c = record { answers = answers_shut _ _ _ _ (bad_written book_place 16384 _ (opening_shut _ _ (list_told _ a_book rules_of_book _ Book c.book-w.ensures.walked c.opened_list.ensures) c.in-Shut.is)) }
+returns-in_err-file c = let e : c.from_residual.result ≡ Err c.in_err-file.field-0.0 = search rules in record { answers = rw e (answers_shut _ _ _ _ (bad_written book_place 16384 _ (opening_shut _ _ (list_told _ a_book rules_of_book _ Book c.book-w.ensures.walked c.opened_list.ensures) c.in_err-file.was))) }
 
-pub returns-else-n-out : goal.returns-else-n-out
+pub returns : goal.returns
 unfolding w_of writing_book
-returns-else-n-out c = let g = opening_good _ _ (list_told _ a_book rules_of_book _ Book c.book-w.ensures.walked c.opened_list.ensures) c.in-Open.is in record { answers = packed_filled book_place a_book _ g 16384 refl c.bytes_for-n.ensures c.if-n-gt16384.false (omega arith) c.if-n-out.false c.book-again.ensures.walked }
+returns c = let g = opening_good _ _ (list_told _ a_book rules_of_book _ Book c.book-w.ensures.walked c.opened_list.ensures) c.in_ok-file.was in record { answers = packed_filled book_place a_book _ g 16384 refl c.bytes_for-n.ensures c.if-n-gt16384.false (omega arith) c.if-n-out.false c.book-again.ensures.walked }
