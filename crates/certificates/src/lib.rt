@@ -70,6 +70,7 @@ fn descent<R: Heads, G: Signature>(r: &mut R, book: G, counts: &[u8], line: u16)
 }
 
 // What stands behind the claim of a line: an unfold, or a descent.
+#[tactic(auto, using(crate::proofs::Cases::kind_unfold, crate::proofs::Cases::kind_descent))]
 fn kind<R: Heads, G: Signature>(
     r: &mut R,
     book: G,

@@ -7,7 +7,7 @@ use borrow.Author.Tests.{eq-eqb, ne_eqb}
 use Rattle.patterns.specs.Certificate.{fact, call}
 use Rattle.fields.specs.Grammar.{Grammar, done, bind}
 use Rattle.fields.specs.Along.{Steps, Comes, silent}
-use Rattle.fields.proofs.Alongs.{seq_last, comes_done}
+use Rattle.fields.proofs.Alongs.{seq_on, seq_last, comes_done}
 use Rattle.fields.proofs.Many.{Many, at_none, at_some}
 use Rattle.grammar.specs.Certificates.{a_use, uses_of, a_last_if, a_last, a_stop}
 
@@ -16,6 +16,11 @@ use Rattle.grammar.specs.Certificates.{a_use, uses_of, a_last_if, a_last, a_stop
 pub silent_last : {A B S : Type 0} {st : Steps S} {p : Grammar A} (h : A → B) {x y : S} {r : Result (Unit {0}) ℕ}
     → Comes st p x silent r y → Comes st (bind p λ a. done (h a)) x silent r y
 silent_last h = seq_last h (λ a. refl)
+
+-- one grammar and another, which does not ask what the first found
+pub silent_both : {A B C V S : Type 0} {st : Steps S} {p : Grammar A} {q : Grammar B} (h : A → B → C) {x y z : S} {val : A → V} {r : Result V ℕ} {v : V} {s : Result (Unit {0}) ℕ}
+    → Comes st p x val r y → r ≡ Ok v → Comes st q y silent s z → Comes st (bind p λ a. bind q λ b. done (h a b)) x silent s z
+silent_both h first e second = seq_on first _ e (λ a k. silent_last (h a) second)
 
 -- ---- a bit that says whether a use follows
 

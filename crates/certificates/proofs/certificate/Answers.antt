@@ -3,9 +3,9 @@ use native.Mathlib.Omega.{arith}
 use Rattle.std.proofs.Common.{rules}
 use Rattle.fields.specs.Kinds.{FieldKind as kind}
 use Rattle.fields.proofs.Ranges.{any_bounded}
-use Rattle.fields.proofs.Alongs.{seq_no, seq_on, seq_at}
+use Rattle.fields.proofs.Alongs.{seq_no, seq_at}
 use Rattle.grammar.specs.Certificates.{a_certificate_of, a_certificate}
-use Rattle.uses.proofs.Cases.{silent_last}
+use Rattle.uses.proofs.Cases.{silent_both}
 use Rattle.certificates.proofs.certificate.Goals as goal
 
 pub returns-in_err-n : goal.returns-in_err-n
@@ -18,4 +18,4 @@ returns-in_err-lines g c = seq_at _ (c.take.ensures.comes _ _ (any_bounded kind.
 
 pub returns : goal.returns
 unfolding a_certificate_of a_certificate
-returns g c = seq_at _ (c.take.ensures.comes _ _ (any_bounded kind.line_count (omega arith))) c.in_ok-n.was (seq_on c.lines.ensures _ c.in_ok-lines.was (λ ls q. silent_last _ c.closing.ensures))
+returns g c = seq_at _ (c.take.ensures.comes _ _ (any_bounded kind.line_count (omega arith))) c.in_ok-n.was (silent_both _ c.lines.ensures c.in_ok-lines.was c.closing.ensures)

@@ -3,9 +3,9 @@ use native.Mathlib.Omega.{arith}
 use Rattle.std.proofs.Common.{rules}
 use Rattle.fields.specs.Kinds.{FieldKind as kind}
 use Rattle.fields.proofs.Ranges.{any_bounded}
-use Rattle.fields.proofs.Alongs.{seq_no, seq_on, seq_at}
+use Rattle.fields.proofs.Alongs.{seq_no, seq_at}
 use Rattle.grammar.specs.Certificates.{a_line_of, a_line}
-use Rattle.uses.proofs.Cases.{silent_last}
+use Rattle.uses.proofs.Cases.{silent_both}
 use Rattle.certificates.proofs.line.Goals as goal
 
 pub returns-in_err-tag : goal.returns-in_err-tag
@@ -18,4 +18,4 @@ returns-in_err-claim g c = seq_at _ (c.take.ensures.comes _ _ (any_bounded kind.
 
 pub returns : goal.returns
 unfolding a_line_of a_line
-returns g c = seq_at _ (c.take.ensures.comes _ _ (any_bounded kind.line_kind (omega arith))) c.in_ok-tag.was (seq_on c.claim.ensures _ c.in_ok-claim.was (λ x q. silent_last _ c.kind.ensures))
+returns g c = seq_at _ (c.take.ensures.comes _ _ (any_bounded kind.line_kind (omega arith))) c.in_ok-tag.was (silent_both _ c.claim.ensures c.in_ok-claim.was c.kind.ensures)

@@ -2,9 +2,9 @@
 use Rattle.std.proofs.Common.{rules}
 use Rattle.fields.specs.Kinds.{FieldKind as kind}
 use Rattle.fields.proofs.Ranges.{from_to_bounded}
-use Rattle.fields.proofs.Alongs.{seq_no, seq_on, seq_at}
+use Rattle.fields.proofs.Alongs.{seq_no, seq_at}
 use Rattle.grammar.specs.Certificates.{a_stopped, a_stop_at}
-use Rattle.uses.proofs.Cases.{silent_last}
+use Rattle.uses.proofs.Cases.{silent_both}
 use Rattle.uses.proofs.stop_at.Goals as goal
 
 pub returns-in_err-i : goal.returns-in_err-i
@@ -17,4 +17,4 @@ returns-in_err-filling g c = rw (← c.min.ensures) (seq_at _ (c.take.ensures.co
 
 pub returns : goal.returns
 unfolding a_stopped a_stop_at
-returns g c = rw (← c.min.ensures) (seq_at _ (c.take.ensures.comes _ _ (from_to_bounded kind.stop_number _ _)) c.in_ok-i.was (seq_on c.filling.ensures _ c.in_ok-filling.was (λ θ q. silent_last _ c.stop.ensures)))
+returns g c = rw (← c.min.ensures) (seq_at _ (c.take.ensures.comes _ _ (from_to_bounded kind.stop_number _ _)) c.in_ok-i.was (silent_both _ c.filling.ensures c.in_ok-filling.was c.stop.ensures))

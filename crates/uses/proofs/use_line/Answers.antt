@@ -2,9 +2,9 @@
 use Rattle.std.proofs.Common.{rules}
 use Rattle.fields.specs.Kinds.{FieldKind as kind}
 use Rattle.fields.proofs.Ranges.{from_to_bounded}
-use Rattle.fields.proofs.Alongs.{seq_no, seq_on, seq_at}
+use Rattle.fields.proofs.Alongs.{seq_no, seq_at}
 use Rattle.grammar.specs.Certificates.{an_instance, a_use}
-use Rattle.uses.proofs.Cases.{silent_last}
+use Rattle.uses.proofs.Cases.{silent_last, silent_both}
 use Rattle.uses.proofs.use_line.Goals as goal
 
 pub returns-in_err-take : goal.returns-in_err-take
@@ -17,4 +17,4 @@ returns-in_err-index g c = seq_at _ (c.take.ensures.comes _ _ (from_to_bounded k
 
 pub returns : goal.returns
 unfolding an_instance a_use
-returns g c = seq_at _ (c.take.ensures.comes _ _ (from_to_bounded kind.used_line _ _)) c.in_ok-take.was (silent_last _ (seq_on c.index.ensures _ c.in_ok-index.was (λ i q. silent_last _ c.filling.ensures)))
+returns g c = seq_at _ (c.take.ensures.comes _ _ (from_to_bounded kind.used_line _ _)) c.in_ok-take.was (silent_last _ (silent_both _ c.index.ensures c.in_ok-index.was c.filling.ensures))
