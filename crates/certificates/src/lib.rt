@@ -3,7 +3,7 @@
 
 ghost use Rattle.std.specs.Prelude.{◌≡◌, ◌<◌, get_or};
 ghost use Rattle.fields.specs.Along.{Comes, silent};
-ghost use Rattle.grammar.specs.Certificates.{a_right, a_claim, an_unfold, a_fall, a_descent, a_kind, a_line_of, a_line, lines_of, a_pace, a_closed, a_closing, a_certificate_of, a_certificate};
+ghost use Rattle.grammar.specs.Certificates.{a_right, a_claim, an_unfold, a_fall, a_descent, a_kind, a_line, lines_of, a_pace, a_closing, a_certificate};
 
 use fields::Fields;
 use terms::heads::Heads;
@@ -70,6 +70,7 @@ fn descent<R: Heads, G: Signature>(r: &mut R, book: G, counts: &[u8], line: u16)
 }
 
 // What stands behind the claim of a line: an unfold, or a descent.
+#[tactic(auto, using(crate::proofs::Cases::kind_unfold, crate::proofs::Cases::kind_descent))]
 fn kind<R: Heads, G: Signature>(
     r: &mut R,
     book: G,
@@ -85,26 +86,13 @@ fn kind<R: Heads, G: Signature>(
     }
 }
 
-// The claim of a line, and what stands behind it.
-fn line_of<R: Heads, G: Signature>(
-    r: &mut R,
-    book: G,
-    counts: &[u8],
-    line: u16,
-    tag: u16,
-) -> Result<(), u16>
-    ensures { Comes R.steps (a_line_of (G.arities book) counts.now line tag) r.old silent result r.new }
-{
-    claim(r, book)?;
-    kind(r, book, counts, line, tag)
-}
-
-// The line with the number `line`, which its uses stay below.
+// The line with the number `line`, which its uses stay below: its claim, and what stands behind it.
 pub fn line<R: Heads, G: Signature>(r: &mut R, book: G, counts: &[u8], line: u16) -> Result<(), u16>
     ensures { Comes R.steps (a_line (G.arities book) counts.now line) r.old silent result r.new }
 {
     let tag = r.take(1, 0, 2, 4)?;
-    line_of(r, book, counts, line, tag)
+    claim(r, book)?;
+    kind(r, book, counts, line, tag)
 }
 
 // The n lines of a certificate.
@@ -125,33 +113,13 @@ fn pace<R: Fields>(r: &mut R) -> Result<u16, u16>
     r.take(12, 0, 4096 - k, 4)
 }
 
-// The step and the start of a closing, with its filling.
-fn closed<R: Heads, G: Signature>(r: &mut R, book: G) -> Result<(), u16>
-    ensures { Comes R.steps (a_closed (G.arities book)) r.old silent result r.new }
-{
-    pace(r)?;
-    terms::filling(r, book)
-}
-
-// The closing on one of n lines.
+// The closing on one of n lines, with its filling.
 pub fn closing<R: Heads, G: Signature>(r: &mut R, book: G, n: u16) -> Result<(), u16>
     ensures { Comes R.steps (a_closing (G.arities book) n) r.old silent result r.new }
 {
     r.take(8, 0, n, 4)?;
-    closed(r, book)
-}
-
-// The n lines of a certificate, and its closing.
-fn certificate_of<R: Heads, G: Signature>(
-    r: &mut R,
-    book: G,
-    counts: &[u8],
-    n: u16,
-) -> Result<(), u16>
-    ensures { Comes R.steps (a_certificate_of (G.arities book) counts.now n) r.old silent result r.new }
-{
-    lines(r, book, counts, n)?;
-    closing(r, book, n)
+    pace(r)?;
+    terms::filling(r, book)
 }
 
 // A certificate: how many lines, the lines, and the closing. `counts` tells how many calls each rule of its book has.
@@ -159,5 +127,6 @@ pub fn certificate<R: Heads, G: Signature>(r: &mut R, book: G, counts: &[u8]) ->
     ensures { Comes R.steps (a_certificate (G.arities book) counts.now) r.old silent result r.new }
 {
     let n = r.take(8, 0, 256, 4)?;
-    certificate_of(r, book, counts, n)
+    lines(r, book, counts, n)?;
+    closing(r, book, n)
 }

@@ -5,11 +5,22 @@ use mathlib.Core.Path.{◌≡◌, refl}
 use mathlib.Core.Logic.{◌≢◌}
 use borrow.Author.Tests.{eq-eqb, ne_eqb}
 use Rattle.patterns.specs.Certificate.{fact, call}
-use Rattle.fields.specs.Grammar.{done, bind}
+use Rattle.fields.specs.Grammar.{Grammar, done, bind}
 use Rattle.fields.specs.Along.{Steps, Comes, silent}
-use Rattle.fields.proofs.Alongs.{seq_last, comes_done}
+use Rattle.fields.proofs.Alongs.{seq_on, seq_last, comes_done}
 use Rattle.fields.proofs.Many.{Many, at_none, at_some}
 use Rattle.grammar.specs.Certificates.{a_use, uses_of, a_last_if, a_last, a_stop}
+
+-- ---- a tree of which nothing is told is put together
+
+pub silent_last : {A B S : Type 0} {st : Steps S} {p : Grammar A} (h : A → B) {x y : S} {r : Result (Unit {0}) ℕ}
+    → Comes st p x silent r y → Comes st (bind p λ a. done (h a)) x silent r y
+silent_last h = seq_last h (λ a. refl)
+
+-- one grammar and another, which does not ask what the first found
+pub silent_both : {A B C V S : Type 0} {st : Steps S} {p : Grammar A} {q : Grammar B} (h : A → B → C) {x y z : S} {val : A → V} {r : Result V ℕ} {v : V} {s : Result (Unit {0}) ℕ}
+    → Comes st p x val r y → r ≡ Ok v → Comes st q y silent s z → Comes st (bind p λ a. bind q λ b. done (h a b)) x silent s z
+silent_both h first e second = seq_on first _ e (λ a k. silent_last (h a) second)
 
 -- ---- a bit that says whether a use follows
 
@@ -20,7 +31,7 @@ module _ {S : Type 0} {st : Steps S} (ar : ℕ → ℕ) (line : ℕ) {b : ℕ} {
 
   pub last_some : {r : Result (Unit {0}) ℕ} {y : S} → b ≢ 0 → Comes st (a_use ar line) x silent r y → Comes st (a_last_if ar line b) x silent r y
   unfolding a_last_if
-  last_some h k = rw (ne_eqb b 0 h) (seq_last _ (λ u. refl) k)
+  last_some h k = rw (ne_eqb b 0 h) (silent_last _ k)
 
 -- ---- uses, and where an unfold stops
 

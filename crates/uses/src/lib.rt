@@ -4,7 +4,7 @@
 ghost use Rattle.std.specs.Prelude.{◌<◌};
 ghost use Rattle.fields.specs.Along.{Comes, silent};
 ghost use Rattle.terms.specs.Values.{second_of};
-ghost use Rattle.grammar.specs.Certificates.{an_index, an_instance, a_use, uses_of, a_last, a_stop, a_stopped, a_stop_at};
+ghost use Rattle.grammar.specs.Certificates.{an_index, a_use, uses_of, a_last, a_stop, a_stop_at};
 
 use fields::Fields;
 use terms::heads::Heads;
@@ -18,20 +18,13 @@ fn index<R: Fields>(r: &mut R) -> Result<u16, u16>
     r.take(12, 0, 4096, 4)
 }
 
-// An index pair, with a filling.
-fn instance<R: Heads, G: Signature>(r: &mut R, book: G) -> Result<(), u16>
-    ensures { Comes R.steps (an_instance (G.arities book)) r.old silent result r.new }
-{
-    index(r)?;
-    terms::filling(r, book)
-}
-
-// A use of a line before `line`.
+// A use of a line before `line`: an index pair, with a filling.
 pub fn use_line<R: Heads, G: Signature>(r: &mut R, book: G, line: u16) -> Result<(), u16>
     ensures { Comes R.steps (a_use (G.arities book) line) r.old silent result r.new }
 {
     r.take(8, 0, line, 4)?;
-    instance(r, book)
+    index(r)?;
+    terms::filling(r, book)
 }
 
 // The n uses before the call where an unfold stops.
@@ -65,19 +58,12 @@ fn stop<R: Heads, G: Signature>(r: &mut R, book: G, line: u16, i: u16) -> Result
     last(r, book, line)
 }
 
-// The filling and the uses of an unfold that stops at i.
-fn stopped<R: Heads, G: Signature>(r: &mut R, book: G, line: u16, i: u16) -> Result<(), u16>
-    ensures { Comes R.steps (a_stopped (G.arities book) line i) r.old silent result r.new }
-{
-    terms::filling(r, book)?;
-    stop(r, book, line, i)
-}
-
 // The stop of an unfold by a rule of m calls, with its filling and its uses.
 pub fn stop_at<R: Heads, G: Signature>(r: &mut R, book: G, line: u16, m: u16) -> Result<(), u16>
     requires { m < 256 }
     ensures { Comes R.steps (a_stop_at (G.arities book) line m) r.old silent result r.new }
 {
     let i = r.take(4, m.min(1), m + 1, 4)?;
-    stopped(r, book, line, i)
+    terms::filling(r, book)?;
+    stop(r, book, line, i)
 }

@@ -1,8 +1,8 @@
 -- `certificates::claim` meets its contract.
-use mathlib.Core.Path.{refl}
 use Rattle.std.proofs.Common.{rules}
-use Rattle.fields.proofs.Alongs.{seq_no, seq_on, seq_last}
+use Rattle.fields.proofs.Alongs.{seq_no}
 use Rattle.grammar.specs.Certificates.{a_claim}
+use Rattle.uses.proofs.Cases.{silent_both}
 use Rattle.certificates.proofs.claim.Goals as goal
 
 pub returns-in_err-any_term : goal.returns-in_err-any_term
@@ -11,4 +11,4 @@ returns-in_err-any_term g c = seq_no c.any_term.ensures _ c.in_err-any_term.was 
 
 pub returns : goal.returns
 unfolding a_claim
-returns g c = seq_on c.any_term.ensures _ c.in_ok-any_term.was (λ x q. seq_last _ (λ y. refl) c.right.ensures)
+returns g c = silent_both _ c.any_term.ensures c.in_ok-any_term.was c.right.ensures

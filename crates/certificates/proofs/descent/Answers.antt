@@ -1,8 +1,8 @@
 -- `certificates::descent` meets its contract.
-use mathlib.Core.Path.{refl}
 use Rattle.std.proofs.Common.{rules}
-use Rattle.fields.proofs.Alongs.{seq_no, seq_on, seq_last}
+use Rattle.fields.proofs.Alongs.{seq_no}
 use Rattle.grammar.specs.Certificates.{a_descent}
+use Rattle.uses.proofs.Cases.{silent_both}
 use Rattle.certificates.proofs.descent.Goals as goal
 
 pub returns-in_err-use_line : goal.returns-in_err-use_line
@@ -11,4 +11,4 @@ returns-in_err-use_line g c = seq_no c.use_line.ensures _ c.in_err-use_line.was 
 
 pub returns : goal.returns
 unfolding a_descent
-returns g c = seq_on c.use_line.ensures _ c.in_ok-use_line.was (λ x q. seq_last _ (λ y. refl) c.fall.ensures)
+returns g c = silent_both _ c.use_line.ensures c.in_ok-use_line.was c.fall.ensures

@@ -1,8 +1,8 @@
 -- `certificates::unfold` meets its contract.
-use mathlib.Core.Path.{refl}
 use Rattle.std.proofs.Common.{rules}
-use Rattle.fields.proofs.Alongs.{seq_no, seq_at, seq_last}
+use Rattle.fields.proofs.Alongs.{seq_no, seq_at}
 use Rattle.grammar.specs.Certificates.{an_unfold}
+use Rattle.uses.proofs.Cases.{silent_last}
 use Rattle.certificates.proofs.Cases.{rule_bounded}
 use Rattle.certificates.proofs.unfold.Goals as goal
 
@@ -12,4 +12,4 @@ returns-in_err-k g c = seq_no (c.take.ensures.comes _ _ (rule_bounded _ c.min-en
 
 pub returns : goal.returns
 unfolding an_unfold
-returns g c = seq_at _ (c.take.ensures.comes _ _ (rule_bounded _ c.min-end.ensures)) c.in_ok-k.was (seq_last _ (λ q. refl) (rw (← c.calls.ensures.counted) c.stop_at.ensures))
+returns g c = seq_at _ (c.take.ensures.comes _ _ (rule_bounded _ c.min-end.ensures)) c.in_ok-k.was (silent_last _ (rw (← c.calls.ensures.counted) c.stop_at.ensures))

@@ -1,8 +1,7 @@
 -- `uses::stop` meets its contract.
-use mathlib.Core.Path.{refl}
 use Rattle.std.proofs.Common.{rules}
-use Rattle.fields.proofs.Alongs.{seq_no, seq_on, seq_last}
-use Rattle.uses.proofs.Cases.{stop_none, stop_some}
+use Rattle.fields.proofs.Alongs.{seq_no}
+use Rattle.uses.proofs.Cases.{silent_both, stop_none, stop_some}
 use Rattle.uses.proofs.stop.Goals as goal
 
 pub returns-then-i-eq0 : goal.returns-then-i-eq0
@@ -12,4 +11,4 @@ pub returns-in_err-uses : goal.returns-in_err-uses
 returns-in_err-uses g c = stop_some _ _ _ c.if-i-eq0.false (seq_no c.uses.ensures _ c.in_err-uses.was (search rules))
 
 pub returns : goal.returns
-returns g c = stop_some _ _ _ c.if-i-eq0.false (seq_on c.uses.ensures _ c.in_ok-uses.was (λ us q. seq_last _ (λ u. refl) c.last.ensures))
+returns g c = stop_some _ _ _ c.if-i-eq0.false (silent_both _ c.uses.ensures c.in_ok-uses.was c.last.ensures)
