@@ -1,7 +1,7 @@
 // What the operations answer: W, a refusal, a verdict, what reading and writing answer, and whether a call is covered.
 #![tactic(auto)]
 
-ghost use Rattle.std.specs.Prelude.{◌≡◌};
+ghost use Rattle.std.specs.Prelude.{◌≡◌, ◌<◌, ◌≤◌, MatchResult};
 ghost use Rattle.answers.specs.Numbers.{w_of, paper_refusal};
 ghost use Rattle.answers.specs.Carried.{refusal_at, carried};
 
@@ -72,4 +72,14 @@ pub fn whole(number: u16, w: W) -> Refusal
     ensures { paper_refusal result ≡ refusal_at number (w_of w) 0 }
 {
     carried(number, w, 0, 0)
+}
+
+// Refusal 2, which names the file, where a file is longer than it may be.
+pub fn check_length(length: usize, most: usize, w: W) -> Result<(), Refusal>
+    ensures { MatchResult result (λ v. length ≤ most) (λ r. (most < length) × (paper_refusal r ≡ refusal_at 2 (w_of w) 0)) }
+{
+    if length > most {
+        return Err(whole(2, w));
+    }
+    Ok(())
 }

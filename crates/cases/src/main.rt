@@ -7,14 +7,44 @@ mod sums;
 ghost use Rattle.std.specs.Prelude.{◌≡◌, ◌≤◌, length};
 ghost use Rattle.std.specs.Counts.{IsPrefixLen};
 
-use answers::{Answer, Coverage, Verdict};
+use answers::{Answer, Refusal, Verdict};
 use std::io::Read;
 use sums::sum_of;
+
+// What a vector asks for.
+#[derive(Clone, Copy, PartialEq, Eq)]
+enum Operation {
+    Judge,
+    JudgeInput,
+    ReadBook,
+    ReadCertificate,
+    WriteBook,
+    WriteCertificate,
+    Covers,
+    // A number of no operation: what `Covers` does, for a call of no bytes.
+    Unknown,
+}
+
+// The operations by their numbers in a vector.
+impl From<u8> for Operation {
+    fn from(number: u8) -> Self {
+        match number {
+            0 => Operation::Judge,
+            1 => Operation::JudgeInput,
+            2 => Operation::ReadBook,
+            3 => Operation::ReadCertificate,
+            4 => Operation::WriteBook,
+            5 => Operation::WriteCertificate,
+            6 => Operation::Covers,
+            _ => Operation::Unknown,
+        }
+    }
+}
 
 // What stands before a vector's name and its files: the operation, and the length of each part.
 #[derive(Drop)]
 struct Head {
-    operation: u8,
+    operation: Operation,
     name: u8,
     room: u16,
     first: u16,
@@ -54,11 +84,6 @@ fn file() -> [u8; 131072]
 
 // ---- what is read
 
-// A number of two bytes, the high one first.
-fn number(high: u8, low: u8) -> u16 {
-    256 * (high as u16) + low as u16
-}
-
 // How many bytes a file of that many fields or bytes has.
 fn file_length(length: u16, listed: bool) -> usize
     ensures { result ≤ 131070 }
@@ -77,16 +102,17 @@ fn fill<R: Read>(input: &mut R, part: &mut [u8], n: usize)
     let _ = input.read_exact(&mut part[..n]);
 }
 
+// A number of two bytes, the high one first.
 fn read_number<R: Read>(input: &mut R) -> u16 {
     let mut two = [0u8; 2];
     let _ = input.read_exact(&mut two);
-    number(two[0], two[1])
+    u16::from_be_bytes(two)
 }
 
 // The length of the third file, which only a question for a call has.
-fn read_third<R: Read>(input: &mut R, operation: u8) -> u16 {
+fn read_third<R: Read>(input: &mut R, operation: Operation) -> u16 {
     match operation {
-        6 => read_number(input),
+        Operation::Covers => read_number(input),
         _ => 0,
     }
 }
@@ -94,13 +120,13 @@ fn read_third<R: Read>(input: &mut R, operation: u8) -> u16 {
 fn read_head<R: Read>(input: &mut R) -> Head {
     let mut head = [0u8; 8];
     let _ = input.read_exact(&mut head);
-    let operation = head[0];
+    let operation = Operation::from(head[0]);
     Head {
         operation,
         name: head[1],
-        room: number(head[2], head[3]),
-        first: number(head[4], head[5]),
-        second: number(head[6], head[7]),
+        room: u16::from_be_bytes([head[2], head[3]]),
+        first: u16::from_be_bytes([head[4], head[5]]),
+        second: u16::from_be_bytes([head[6], head[7]]),
         third: read_third(input, operation),
     }
 }
@@ -109,13 +135,9 @@ fn read_head<R: Read>(input: &mut R) -> Head {
 fn fields_of(list: &[u8], fields: &mut [u16]) -> usize
     ensures { IsPrefixLen result fields.new }
 {
-    let mut n = 0;
-    while n < fields.len() {
-        if list.len() - 2 * n < 2 {
-            return n;
-        }
-        fields[n] = number(list[2 * n], list[2 * n + 1]);
-        n += 1;
+    let n = fields.len().min(list.len() / 2);
+    for (field, pair) in fields.iter_mut().zip(list.chunks_exact(2)) {
+        *field = u16::from_be_bytes([pair[0], pair[1]]);
     }
     n
 }
@@ -141,46 +163,17 @@ fn print_verdict(rt: &impl Print, verdict: Verdict) {
     }
 }
 
-// Prints what reading or writing answers.
-fn print_answer(rt: &impl Print, said: Answer) {
+// Prints an answer that is a number, behind the word for it, or a refusal.
+fn print_answer(rt: &impl Print, word: &str, said: Result<usize, Refusal>) {
     match said {
         Ok(n) => {
-            let _ = print!(rt; "filled {n}");
+            let _ = print!(rt; "{word} {n}");
         }
         Err(r) => print_verdict(rt, Err(r)),
     }
 }
 
-// Prints what is answered for a call.
-fn print_coverage(rt: &impl Print, coverage: Coverage) {
-    match coverage {
-        Ok(i) => {
-            let _ = print!(rt; "covered {i}");
-        }
-        Err(r) => print_verdict(rt, Err(r)),
-    }
-}
-
-// Prints the sum of what was left, and ends the line.
-fn print_left(rt: &impl Print, sum: u64) {
-    let _ = println!(rt; " left {sum}");
-}
-
-// ---- the operations: 0 and 1 judge, 2 and 3 read, 4 and 5 write, 6 asks for a call
-
-fn judge_files(operation: u8, first: &[u8], second: &[u8], work: &mut [u64]) -> Verdict {
-    match operation {
-        0 => judging::judge(first, second, work),
-        _ => judging::judge_input(first, work),
-    }
-}
-
-fn read_files(operation: u8, first: &[u8], second: &[u8], out: &mut [u16]) -> Answer {
-    match operation {
-        2 => layout::read_book(first, out),
-        _ => layout::read_certificate(first, second, out),
-    }
-}
+// ---- the operations
 
 fn write_book(list: &[u8], out: &mut [u8]) -> Answer {
     let mut fields = places();
@@ -194,59 +187,46 @@ fn write_certificate(book: &[u8], list: &[u8], out: &mut [u8]) -> Answer {
     layout::write_certificate(book, &fields[..n], out)
 }
 
-fn write_files(operation: u8, first: &[u8], second: &[u8], out: &mut [u8]) -> Answer {
+// Lends memory to a step that prints its answer, then prints the sum of what it left there, and ends the line.
+fn lend<T: Copy + Into<u64>, F: FnOnce(&mut [T])>(rt: &impl Print, lent: &mut [T], step: F)
+    requires { F.IsAlwaysCallable step }
+{
+    step(lent);
+    let sum = sum_of(lent);
+    let _ = println!(rt; " left {sum}");
+}
+
+fn run(
+    rt: &impl Print,
+    operation: Operation,
+    room: u16,
+    first: &[u8],
+    second: &[u8],
+    third: &[u8],
+) {
+    let n = room as usize;
     match operation {
-        4 => write_book(first, out),
-        _ => write_certificate(first, second, out),
-    }
-}
-
-fn run_judge(rt: &impl Print, operation: u8, room: u16, first: &[u8], second: &[u8]) {
-    let mut space = numbers();
-    let n = room as usize;
-    let work = &mut space[..n];
-    print_verdict(rt, judge_files(operation, first, second, work));
-    let fields = [0u16; 0];
-    let bytes = [0u8; 0];
-    print_left(rt, sum_of(work, &fields, &bytes, n));
-}
-
-fn run_read(rt: &impl Print, operation: u8, room: u16, first: &[u8], second: &[u8]) {
-    let mut space = places();
-    let n = room as usize;
-    let out = &mut space[..n];
-    print_answer(rt, read_files(operation, first, second, out));
-    let numbers = [0u64; 0];
-    let bytes = [0u8; 0];
-    print_left(rt, sum_of(&numbers, out, &bytes, n));
-}
-
-fn run_write(rt: &impl Print, operation: u8, room: u16, first: &[u8], second: &[u8]) {
-    let mut space = bytes();
-    let n = room as usize;
-    let out = &mut space[..n];
-    print_answer(rt, write_files(operation, first, second, out));
-    let numbers = [0u64; 0];
-    let fields = [0u16; 0];
-    print_left(rt, sum_of(&numbers, &fields, out, n));
-}
-
-fn run_covers(rt: &impl Print, room: u16, first: &[u8], second: &[u8], third: &[u8]) {
-    let mut space = numbers();
-    let n = room as usize;
-    let work = &mut space[..n];
-    print_coverage(rt, covers::covers(first, second, third, work));
-    let fields = [0u16; 0];
-    let bytes = [0u8; 0];
-    print_left(rt, sum_of(work, &fields, &bytes, n));
-}
-
-fn run(rt: &impl Print, operation: u8, room: u16, first: &[u8], second: &[u8], third: &[u8]) {
-    match operation {
-        0 | 1 => run_judge(rt, operation, room, first, second),
-        2 | 3 => run_read(rt, operation, room, first, second),
-        4 | 5 => run_write(rt, operation, room, first, second),
-        _ => run_covers(rt, room, first, second, third),
+        Operation::Judge => lend(rt, &mut numbers()[..n], |work| {
+            print_verdict(rt, judging::judge(first, second, work));
+        }),
+        Operation::JudgeInput => lend(rt, &mut numbers()[..n], |work| {
+            print_verdict(rt, judging::judge_input(first, work));
+        }),
+        Operation::ReadBook => lend(rt, &mut places()[..n], |out| {
+            print_answer(rt, "filled", layout::read_book(first, out));
+        }),
+        Operation::ReadCertificate => lend(rt, &mut places()[..n], |out| {
+            print_answer(rt, "filled", layout::read_certificate(first, second, out));
+        }),
+        Operation::WriteBook => lend(rt, &mut bytes()[..n], |out| {
+            print_answer(rt, "filled", write_book(first, out));
+        }),
+        Operation::WriteCertificate => lend(rt, &mut bytes()[..n], |out| {
+            print_answer(rt, "filled", write_certificate(first, second, out));
+        }),
+        Operation::Covers | Operation::Unknown => lend(rt, &mut numbers()[..n], |work| {
+            print_answer(rt, "covered", covers::covers(first, second, third, work));
+        }),
     }
 }
 
@@ -255,8 +235,8 @@ fn run_next<R: Read>(rt: &impl Print, input: &mut R) {
     let head = read_head(input);
     print_name(rt, input, head.name);
     let operation = head.operation;
-    let n = file_length(head.first, operation == 4);
-    let m = file_length(head.second, operation == 5);
+    let n = file_length(head.first, operation == Operation::WriteBook);
+    let m = file_length(head.second, operation == Operation::WriteCertificate);
     let mut first = file();
     fill(input, &mut first, n);
     let mut second = file();

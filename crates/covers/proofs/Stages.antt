@@ -4,13 +4,12 @@ use mathlib.Core.Path.{◌≡◌, refl, sym, ◌∙◌, ap, subst}
 use mathlib.Core.List.{List}
 use native.Mathlib.Omega.{arith}
 use lib.ListN.{get_or}
-use Rattle.std.specs.Prelude.{Result, Ok, Err}
+use Rattle.std.specs.Prelude.{Result, Ok, Err, Bool, true, false, cond, ltb}
 use Rattle.answers.specs.Carried.{refusal_at}
 use Rattle.answers.specs.Numbers.{Reply, denied, paper_refusal, paper_pace, paper_verdict, paper_coverage}
 use Rattle.answers.specs.declared.Refusal.{Refusal}
 use Rattle.answers.specs.declared.Acceptance.{Acceptance}
 use Rattle.answers.proofs.Refusing.{refused_coverage}
-use Rattle.bits.specs.Bits.{Bytes}
 use Rattle.patterns.specs.Reason.{call_place, neither_place}
 use Rattle.patterns.specs.Formed.{Formed}
 use Rattle.patterns.specs.First.{Pattern, Pace}
@@ -29,18 +28,17 @@ use Rattle.layout.proofs.OneFile.{call_file_fits}
 use Rattle.table.specs.Places.{WORDS, LEFTS}
 use Rattle.instances.specs.Lying.{Lies, KnownArities, TermAt}
 use Rattle.begins.specs.Placed.{LeftAt}
-use Rattle.verdicts.specs.Judging.{judging_files}
+use Rattle.verdicts.specs.Judging.{refusal_one, judging_files, judging}
 use Rattle.verdicts.specs.Demands.{Acceptable}
 use Rattle.verdicts.proofs.Demands.{book_opens, certificate_opens, accepts_exactly_when}
-use Rattle.verdicts.proofs.Layers.{table_short, table_enough}
-use Rattle.judging.specs.Placed.{Placed}
+use Rattle.verdicts.proofs.Layers.{table_enough}
 use Rattle.judging.proofs.Opened.{lies_opened, book_lies, book_arities}
 use Rattle.matching.specs.declared.Index.{Index}
 use Rattle.matching.specs.declared.Index.TheVariants.{At, Nowhere}
 use Rattle.matching.specs.Matching.{index_found, Searches}
 use Rattle.covers.specs.Asking.{not_covered, told_index, asking_accepted, asking_judged, asking}
 use Rattle.covers.specs.Stages.{Ready, AsksCall}
-use Rattle.covers.proofs.Layers.{verdict_refused, call_placed}
+use Rattle.covers.proofs.Layers.{call_placed}
 use Rattle.covers.proofs.Fitting.{is_call}
 use Rattle.covers.proofs.Exactly.{named_claim}
 
@@ -141,23 +139,16 @@ module _ (book certificate call : List ℕ) {v : Result Acceptance Refusal} {j :
   unfolding paper_verdict asking_judged
   accepted_judged r e q = q ∙ ap (asking_judged book certificate call) (ap paper_verdict (sym e) ∙ told)
 
-pub accepted_ready : {book certificate work : List ℕ} {v : Result Acceptance Refusal} {a : Acceptance} → Bytes book → Bytes certificate
-    → paper_verdict v ≡ judging_files book certificate → Placed book certificate work v → v ≡ Ok a → Ready book certificate work a
-accepted_ready {book} {certificate} {work} x y told placed e = record {
-  book_bytes = x;
-  certificate_bytes = y;
-  verdict = ap paper_verdict (sym e) ∙ told;
-  placed = subst (Placed book certificate work) e placed;
-}
-
 -- ---- the table
 
-module _ (book certificate call : List ℕ) {size : ℕ} where
-  pub short_asked : (q : Refusal) → size < WORDS → paper_refusal q ≡ refusal_at 1 neither_place 0
-      → paper_coverage (Err q) ≡ asking book certificate call size
-  short_asked q h e = refused_coverage q e ∙ sym (verdict_refused book certificate call size _ (table_short book certificate size h))
-
-  pub files_asked : (r : Result ℕ Refusal) → WORDS ≤ size → paper_coverage r ≡ asking_judged book certificate call (judging_files book certificate)
-      → paper_coverage r ≡ asking book certificate call size
-  unfolding asking
-  files_asked r h e = e ∙ ap (asking_judged book certificate call) (sym (table_enough book certificate size h))
+-- refusal 1 for a short table, and else what is answered on it
+pub table_asked : (book certificate call : List ℕ) (size : ℕ)
+    → cond (ltb size WORDS) (denied (refusal_at 1 neither_place 0)) (asking_judged book certificate call (judging_files book certificate))
+    ≡ asking book certificate call size
+unfolding asking asking_judged judging
+table_asked book certificate call size = go (ltb size WORDS)
+  where
+    go : (t : Bool) → cond t (denied (refusal_at 1 neither_place 0)) (asking_judged book certificate call (judging_files book certificate))
+        ≡ asking_judged book certificate call (cond t refusal_one (judging_files book certificate))
+    go true = refl
+    go false = refl

@@ -1,7 +1,7 @@
 // Whether a call is in the family of an accepted certificate.
 #![tactic(auto)]
 
-ghost use Rattle.std.specs.Prelude.{◌≡◌, ◌≤◌, length, replicate};
+ghost use Rattle.std.specs.Prelude.{◌≡◌, ◌≤◌, length};
 ghost use Rattle.table.specs.Places.{WORDS};
 ghost use Rattle.answers.specs.Numbers.{paper_pace, paper_coverage};
 ghost use Rattle.verdicts.specs.Judging.{judging_files};
@@ -74,26 +74,13 @@ fn ask_files(book: &[u8], certificate: &[u8], call: &[u8], work: &mut [u64]) -> 
     ensures answered { paper_coverage result ≡ asking_judged book.now certificate.now call.now (judging_files book.now certificate.now) }
     ensures lent { length work.new ≡ length work.old }
 {
-    match judging::judge_files(book, certificate, work) {
-        Err(r) => Err(r),
-        Ok(a) => ask_accepted(book, certificate, call, work, a),
-    }
-}
-
-// The answer, with all numbers of the work table set to 0.
-fn cleared(answer: Coverage, work: &mut [u64]) -> Coverage
-    ensures { (result ≡ answer) × (work.new ≡ replicate (length work.old) 0) }
-{
-    table::clear(work);
-    answer
+    let a = judging::judge_files(book, certificate, work)?;
+    ask_accepted(book, certificate, call, work, a)
 }
 
 // Whether some index from α on and some filling turn the accepted pattern into the call; the smallest such index.
 pub fn covers(book: &[u8], certificate: &[u8], call: &[u8], work: &mut [u64]) -> Coverage
     ensures { CoverTold book.now certificate.now call.now work.old result work.new }
 {
-    if judging::is_short(work) {
-        return Err(answers::whole(1, W::Neither));
-    }
-    cleared(ask_files(book, certificate, call, work), work)
+    judging::with_table(work, |table| ask_files(book, certificate, call, table))
 }

@@ -1,3 +1,2 @@
--- The laws of the answers as numbers, and that the promises of the door leave no choice.
-pub mod Telling
+-- The laws of the door: its promises leave no choice, and its numbers tell the answer.
 pub mod OneAnswer

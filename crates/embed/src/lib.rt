@@ -21,23 +21,22 @@ ghost use Rattle.embed.specs.Numbers.{
 };
 ghost use Rattle.embed.specs.Promises.{FileTold, JudgeTold, CallTold};
 
-use answers::{Answer, Coverage, Refusal, Verdict};
+use answers::{Refusal, Verdict};
 
 // The numbers of a refusal.
 #[tactic(auto, unfolding(crate::specs::Numbers::refusal_numbers, answers::specs::Numbers::paper_refusal))]
 fn refusal_numbers(r: Refusal) -> [u64; 5]
     ensures { result ≡ refusal_numbers (paper_refusal r) }
 {
-    let what = r.w;
-    let w = answers::w_number(what) as u64;
-    let number = r.number as u64;
-    [1, number, w, r.a as u64, r.b as u64]
+    let w = answers::w_number(r.w) as u64;
+    [1, r.number as u64, w, r.a as u64, r.b as u64]
 }
 
-// The numbers of what reading or writing answers.
-#[tactic(auto, unfolding(crate::specs::Numbers::answer_numbers, answers::specs::Numbers::paper_answer))]
-fn answer_numbers(said: Answer) -> [u64; 5]
-    ensures { result ≡ answer_numbers (paper_answer said) }
+// The numbers of an answer that is one number: what reading or writing answers, and what is answered for a call.
+#[tactic(auto, unfolding(crate::specs::Numbers::answer_numbers, crate::specs::Numbers::coverage_numbers, answers::specs::Numbers::paper_answer, answers::specs::Numbers::paper_coverage))]
+fn answer_numbers(said: Result<usize, Refusal>) -> [u64; 5]
+    ensures file { result ≡ answer_numbers (paper_answer said) }
+    ensures call { result ≡ coverage_numbers (paper_coverage said) }
 {
     match said {
         Ok(n) => [0, n as u64, 0, 0, 0],
@@ -52,17 +51,6 @@ fn verdict_numbers(verdict: Verdict) -> [u64; 5]
 {
     match verdict {
         Ok(a) => [0, a.line as u64, a.k as u64, a.alpha as u64, 0],
-        Err(r) => refusal_numbers(r),
-    }
-}
-
-// The numbers of what is answered for a call.
-#[tactic(auto, unfolding(crate::specs::Numbers::coverage_numbers, answers::specs::Numbers::paper_coverage))]
-fn coverage_numbers(coverage: Coverage) -> [u64; 5]
-    ensures { result ≡ coverage_numbers (paper_coverage coverage) }
-{
-    match coverage {
-        Ok(i) => [0, i as u64, 0, 0, 0],
         Err(r) => refusal_numbers(r),
     }
 }
@@ -91,7 +79,7 @@ pub extern "C" fn gearcinder_covers(
 )
     ensures { CallTold book.now certificate.now call.now work.old work.new answer.new }
 {
-    *answer = coverage_numbers(covers::covers(book, certificate, call, work));
+    *answer = answer_numbers(covers::covers(book, certificate, call, work));
 }
 
 // Reads a book's bytes into a list of its fields.

@@ -1,17 +1,19 @@
 // The judge over bytes: over a book and a certificate, and over the program's input that holds both.
 #![tactic(auto)]
 
-ghost use Rattle.std.specs.Prelude.{◌≡◌, ◌≤◌, ◌<◌, length, replicate};
+ghost use Rattle.std.specs.Prelude.{◌≡◌, ◌≤◌, ◌<◌, length};
+ghost use Rattle.std.specs.Fn.{FnOnceTakesAtMut, FnOnceReturnsAtMut};
 ghost use Rattle.table.specs.Places.{WORDS};
 ghost use Rattle.table.specs.Answer.{Says};
 ghost use Rattle.answers.specs.Numbers.{paper_verdict};
 ghost use Rattle.layout.specs.Openings.{Beside};
-ghost use Rattle.verdicts.specs.Judging.{judging_certificate, judging_files, refusal_one};
+ghost use Rattle.verdicts.specs.Judging.{judging_certificate, judging_files};
 ghost use Rattle.verdicts.specs.Program.{book_length, judging_framed};
+ghost use Rattle.judging.specs.Lent.{Lent};
 ghost use Rattle.judging.specs.Judged.{Judged, JudgedInput};
 ghost use Rattle.judging.specs.Placed.{Placed};
 
-use answers::{Verdict, W};
+use answers::{Refusal, Verdict, W};
 use layout::seeing::{Finding, see_book, see_certificate};
 use table::WORDS;
 
@@ -36,12 +38,8 @@ pub fn judge_files(book: &[u8], certificate: &[u8], work: &mut [u64]) -> Verdict
     ensures lent { length work.new ≡ length work.old }
     ensures placed { Placed book.now certificate.now work.new result }
 {
-    if book.len() > 16384 {
-        return Err(answers::whole(2, W::Book));
-    }
-    if certificate.len() > 32768 {
-        return Err(answers::whole(2, W::Certificate));
-    }
+    answers::check_length(book.len(), 16384, W::Book)?;
+    answers::check_length(certificate.len(), 32768, W::Certificate)?;
     let mut counts = [0u8; 256];
     match see_book(book, &mut counts) {
         Finding::Shut(r) => Err(r),
@@ -56,29 +54,27 @@ pub fn is_short(work: &[u64]) -> bool
     work.len() < WORDS
 }
 
-// Refusal 1. The work table is not touched.
-fn short_table() -> Verdict
-    ensures { paper_verdict result ≡ refusal_one }
+// What needs a whole work table, run on the one that is lent, whose numbers are then all set to 0. A short one is refused with 1 and
+// not touched.
+pub fn with_table<T, F>(work: &mut [u64], run: F) -> Result<T, Refusal>
+where
+    F: FnOnce(&mut [u64]) -> Result<T, Refusal> + Drop,
+    requires { WORDS ≤ length work.old → FnOnceTakesAtMut F.FnOnce run work.old }
+    ensures { Lent (FnOnceReturnsAtMut F.FnOnce run work.old) work.old result work.new }
 {
-    Err(answers::whole(1, W::Neither))
-}
-
-// The verdict, with all numbers of the work table set to 0.
-fn cleared(v: Verdict, work: &mut [u64]) -> Verdict
-    ensures { (result ≡ v) × (work.new ≡ replicate (length work.old) 0) }
-{
+    if is_short(work) {
+        return Err(answers::whole(1, W::Neither));
+    }
+    let answer = run(work);
     table::clear(work);
-    v
+    answer
 }
 
 // Judges a certificate over its book.
 pub fn judge(book: &[u8], certificate: &[u8], work: &mut [u64]) -> Verdict
     ensures { Judged book.now certificate.now work.old result work.new }
 {
-    if is_short(work) {
-        return short_table();
-    }
-    cleared(judge_files(book, certificate, work), work)
+    with_table(work, |table| judge_files(book, certificate, table))
 }
 
 // The book's length, from the input's first two bytes.
@@ -95,9 +91,7 @@ fn judge_framed(input: &[u8], work: &mut [u64]) -> Verdict
     ensures answered { paper_verdict result ≡ judging_framed input.now }
     ensures lent { length work.new ≡ length work.old }
 {
-    if input.len() > 49154 {
-        return Err(answers::whole(2, W::Neither));
-    }
+    answers::check_length(input.len(), 49154, W::Neither)?;
     if input.len() < 2 {
         return Err(answers::whole(3, W::Neither));
     }
@@ -112,8 +106,5 @@ fn judge_framed(input: &[u8], work: &mut [u64]) -> Verdict
 pub fn judge_input(input: &[u8], work: &mut [u64]) -> Verdict
     ensures { JudgedInput input.now work.old result work.new }
 {
-    if is_short(work) {
-        return short_table();
-    }
-    cleared(judge_framed(input, work), work)
+    with_table(work, |table| judge_framed(input, table))
 }

@@ -21,7 +21,7 @@ unfolding decimal_within
 within_step f n h = rw (lt-ltb 9 n h)
 
 -- a number has one digit or more
-by_size : {A : Type 0} (n : ℕ) → (n ≤ 9 → A) → (9 < n → A) → A
+pub by_size : {A : Type 0} (n : ℕ) → (n ≤ 9 → A) → (9 < n → A) → A
 by_size {A} n one more = go (dec_le n 9)
   where
     go : Dec (n ≤ 9) → A
@@ -71,6 +71,10 @@ length_some =
     by_digits (λ n. 0 < length (decimal n)) (λ n h. omega (arith, length_last n h))
     (λ n h p. omega (arith, length_step n h))
 
+power_some : (k : ℕ) → 0 < 10 ^ k
+power_some zero = omega arith
+power_some (suc k) = rw pow-suc (omega (arith, power_some k))
+
 pub length_most : (k n : ℕ) → n < 10 ^ suc k → length (decimal n) ≤ suc k
 length_most zero n h = omega (arith, length_last n (omega arith))
 length_most (suc k) n h =
@@ -79,6 +83,14 @@ length_most (suc k) n h =
     let less : n < 10 ^ suc k * 10 = rw pow-suc at h in
     let tenth = length_most k (n / 10) ((div-lt_iff_lt-mul (omega arith)).1 less) in
     omega (arith, tenth, length_step n p))
+
+-- between two powers of ten
+pub length_between : (k n : ℕ) → 10 ^ k ≤ n → n < 10 * 10 ^ k → length (decimal n) ≡ k + 1
+length_between zero n h g = length_last n (omega arith)
+length_between (suc k) n h g =
+    let low : 10 ^ k * 10 ≤ n = rw pow-suc at h in
+    let high : n < 10 * (10 ^ k * 10) = rw pow-suc at g in
+    omega (arith, length_step n (omega (arith, low, power_some k)), length_between k (n / 10) (omega (arith, low)) (omega (arith, high)))
 
 -- a `usize` has at most 20 digits
 pub length_twenty : (n : ℕ) → n < 18446744073709551616 → length (decimal n) ≤ 20

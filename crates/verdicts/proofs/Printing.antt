@@ -1,15 +1,18 @@
 -- Spaced numbers, one more and all of them, and a whole line.
-use Prim.Native.Nat.{ℕ, suc, ◌+◌, ◌≤◌, ◌<◌}
+use Prim.Native.Nat.{ℕ, suc, ◌+◌, ◌*◌, ◌≤◌, ◌<◌}
 use mathlib.Core.Path.{◌≡◌, refl, sym, ap, ◌∙◌}
 use mathlib.Core.List.{List, [], ◌∷◌, ◌++◌, append_assoc, append-nil}
 use native.Mathlib.Omega.{arith}
-use lib.ListN.{length, take, drop, get_or, set, length-append, length-set, take-append-drop}
-use lib.Seq.{take-suc, take-length}
+use lib.ListN.{length, take, drop, get_or, set, length-append, take-append-drop}
+use lib.Seq.{take-suc}
 use borrow.Author.Tests.{lt-ltb, le-ltb}
+use Rattle.std.specs.List.{sum_by}
+use Rattle.std.proofs.lemmas.List.Sums.{sum_by-cons}
 use Rattle.layout.specs.Answers.{gives, output}
 use Rattle.verdicts.specs.Decimal.{decimal}
 use Rattle.verdicts.specs.Printing.{spaced, sentence, put_at, written_length, Prints}
-use Rattle.verdicts.proofs.Puts.{put_length, put_front, put_one, put_put, put_more}
+use Rattle.verdicts.proofs.Decimal.{length_twenty}
+use Rattle.verdicts.proofs.Puts.{put_front, put_one, put_put, put_more}
 
 abbrev spaced_one : ℕ → List ℕ
 spaced_one n = 32 ∷ decimal n
@@ -18,6 +21,21 @@ pub spaced_append : (l m : List ℕ) → spaced (l ++ m) ≡ spaced l ++ spaced 
 unfolding spaced
 spaced_append [] m = refl
 spaced_append (n ∷ l) m = ap (λ (t : List ℕ). spaced_one n ++ t) (spaced_append l m) ∙ sym (append_assoc (spaced_one n) (spaced l) (spaced m))
+
+-- their length
+pub spaced_sum : (ns : List ℕ) → sum_by (λ n. 1 + length (decimal n)) ns ≡ length (spaced ns)
+unfolding spaced
+spaced_sum [] = refl
+spaced_sum (n ∷ ns) =
+    sum_by-cons (λ n. 1 + length (decimal n)) n ns
+    ∙ ap (λ (k : ℕ). 1 + length (decimal n) + k) (spaced_sum ns)
+    ∙ omega (arith, length-append (spaced_one n) (spaced ns))
+
+pub spaced_short : (ns : List ℕ) → ((i : ℕ) → get_or ns i 0 < 18446744073709551616) → length (spaced ns) ≤ 21 * length ns
+unfolding spaced
+spaced_short [] f = omega arith
+spaced_short (n ∷ ns) f =
+    omega (arith, length-append (spaced_one n) (spaced ns), length_twenty n (f 0), spaced_short ns (λ i. f (suc i)))
 
 -- one number more
 pub spaced_more : (l : List ℕ) (i : ℕ) → i < length l → spaced (take (i + 1) l) ≡ spaced (take i l) ++ (32 ∷ decimal (get_or l i 0))
@@ -42,10 +60,6 @@ spaced_within l i =
       ap length (spaced_append (take i l) (drop i l)),
       length-append (spaced (take i l)) (spaced (drop i l)),
     )
-
-pub spaced_all : (l : List ℕ) (i : ℕ) → i ≤ length l → length l ≤ i → spaced (take i l) ≡ spaced l
-spaced_all l i h k =
-    ap (λ (n : ℕ). spaced (take n l)) {x = i} {y = length l} (omega arith) ∙ ap spaced (take-length l)
 
 -- a space and then a number
 pub put_spaced_one : (out : List ℕ) (k n : ℕ) → k + 1 + length (decimal n) ≤ length out
@@ -122,12 +136,3 @@ module _ (word ns out : List ℕ) where
             ∙ all_put fits;
         short = omega arith;
       }
-
-  pub sentence_size : {n : ℕ} (k d : ℕ) {out₁ out₂ : List ℕ} → n ≡ length (spaced ns) → length word + n + 1 ≤ length out
-      → out₁ ≡ put_at out 0 word → out₂ ≡ put_at out₁ (length word) (spaced ns) → length (set out₂ k d) ≡ length out
-  sentence_size {n} k d {out₁} {out₂} e h first second =
-      let front : length out₁ ≡ length out = ap length first ∙ put_length out 0 word (omega arith) in
-      length-set out₂ k d
-      ∙ ap length second
-      ∙ put_length out₁ (length word) (spaced ns) (omega (arith, front))
-      ∙ front

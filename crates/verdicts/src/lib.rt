@@ -13,13 +13,10 @@ use answers::{Refusal, Verdict};
 fn digits(n: usize) -> usize
     ensures { (result ≡ length (decimal n)) × (result ≤ 20) }
 {
-    let mut m = n;
-    let mut k = 1;
-    while m >= 10 {
-        m /= 10;
-        k += 1;
+    match n.checked_ilog10() {
+        Some(k) => k as usize + 1,
+        None => 1,
     }
-    k
 }
 
 // A digit's byte.
@@ -37,14 +34,11 @@ fn put_number(out: &mut [u8], at: usize, n: usize) -> usize
     ensures filled { out.new ≡ put_at out.old at (decimal n) }
 {
     let end = at + digits(n);
-    let mut k = end;
     let mut m = n;
-    while m > 9 {
-        k -= 1;
+    for k in (at..end).rev() {
         out[k] = digit(m % 10);
         m /= 10;
     }
-    out[at] = digit(m);
     end
 }
 
@@ -53,13 +47,7 @@ fn spaced_length(numbers: &[usize]) -> usize
     requires { length numbers.now ≤ 4 }
     ensures { (result ≡ length (spaced numbers.now)) × (result ≤ 84) }
 {
-    let mut sum = 0;
-    let mut i = 0;
-    while i < numbers.len() {
-        sum += 1 + digits(numbers[i]);
-        i += 1;
-    }
-    sum
+    numbers.iter().map(|n| 1 + digits(*n)).sum()
 }
 
 // Numbers from a place on, a space before each; the answer is the place behind them.
@@ -69,11 +57,9 @@ fn put_spaced(out: &mut [u8], at: usize, numbers: &[usize]) -> usize
     ensures filled { out.new ≡ put_at out.old at (spaced numbers.now) }
 {
     let mut k = at;
-    let mut i = 0;
-    while i < numbers.len() {
+    for &n in numbers {
         out[k] = b' ';
-        k = put_number(out, k + 1, numbers[i]);
-        i += 1;
+        k = put_number(out, k + 1, n);
     }
     k
 }
@@ -83,11 +69,7 @@ fn put_word(out: &mut [u8], word: &[u8])
     requires { length word.now ≤ length out.old }
     ensures { out.new ≡ put_at out.old 0 word.now }
 {
-    let mut i = 0;
-    while i < word.len() {
-        out[i] = word[i];
-        i += 1;
-    }
+    out[..word.len()].copy_from_slice(word);
 }
 
 // A word and numbers as one line, where it fits.
@@ -109,23 +91,9 @@ fn put_sentence(word: &[u8], numbers: &[usize], out: &mut [u8]) -> usize
 fn refusal_line(refusal: Refusal, out: &mut [u8]) -> usize
     ensures { Prints (line_of (refuse (paper_refusal refusal))) out.old result out.new }
 {
-    let number = refusal.number as usize;
-    let what = refusal.w;
-    let w = answers::w_number(what);
-    match number {
-        3..=7 => {
-            let numbers = [number, w, refusal.a, 0];
-            put_sentence(b"refuse", &numbers, out)
-        }
-        9..=16 => {
-            let numbers = [number, w, refusal.a, refusal.b];
-            put_sentence(b"refuse", &numbers, out)
-        }
-        _ => {
-            let numbers = [number, w, 0, 0];
-            put_sentence(b"refuse", &numbers, out)
-        }
-    }
+    let told = answers::carried(refusal.number, refusal.w, refusal.a, refusal.b);
+    let w = answers::w_number(told.w);
+    put_sentence(b"refuse", &[told.number as usize, w, told.a, told.b], out)
 }
 
 // The line of a verdict in the first places of `out`, and its length; where it does not fit, 0 and nothing is written.
@@ -133,10 +101,7 @@ pub fn verdict_line(v: Verdict, out: &mut [u8]) -> usize
     ensures { Prints (line_of (paper_verdict v)) out.old result out.new }
 {
     match v {
-        Ok(a) => {
-            let numbers = [a.line, a.k, a.alpha];
-            put_sentence(b"accept", &numbers, out)
-        }
+        Ok(a) => put_sentence(b"accept", &[a.line, a.k, a.alpha], out),
         Err(refusal) => refusal_line(refusal, out),
     }
 }

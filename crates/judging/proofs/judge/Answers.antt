@@ -1,17 +1,13 @@
 -- `judging::judge` meets its contract: refusal 1, or the verdict on both files with the table cleared.
+use Rattle.std.proofs.Common.{rules}
 use Rattle.answers.specs.Numbers.{paper_verdict}
-use Rattle.judging.proofs.Inputs.{not_less, left_short, left_cleared}
-use Rattle.table.proofs.Answer.{says_true, says_false}
-use Rattle.verdicts.proofs.Layers.{table_short, table_enough}
-use lib.ListN.{replicate}
-use mathlib.Core.Path.{sym, ap, ◌∙◌}
+use Rattle.answers.proofs.Refusing.{refused_verdict}
+use Rattle.verdicts.specs.Judging.{judging, refusal_one, judging_files}
+use Rattle.judging.proofs.Inputs.{lent_told}
 use Rattle.judging.proofs.judge.Goals as goal
 
-pub returns-then-is_short : goal.returns-then-is_short
-returns-then-is_short c = let h = says_true _ c.is_short.ensures c.if-is_short.true in record { book_bytes = λ i. (c.type_inv.book i).fits; bytes = λ i. (c.type_inv.certificate i).fits; answered = c.short_table.ensures ∙ sym (table_short _ _ _ h); cleared = left_short _ h }
-
-pub judge_files-requires : goal.judge_files-requires
-judge_files-requires c = not_less (says_false _ c.is_short.ensures c.if-is_short.false)
-
 pub returns : goal.returns
-returns c = let h = not_less (says_false _ c.is_short.ensures c.if-is_short.false) in record { book_bytes = λ i. (c.type_inv.book i).fits; bytes = λ i. (c.type_inv.certificate i).fits; answered = ap paper_verdict c.cleared.ensures.0 ∙ c.judge_files.ensures.answered ∙ sym (table_enough _ _ _ h); cleared = left_cleared _ h (c.cleared.ensures.1 ∙ ap (λ n. replicate n 0) c.judge_files.ensures.lent) }
+unfolding judging
+returns c =
+    let t = lent_told paper_verdict refusal_one (judging_files c.args.book.now c.args.certificate.now) (λ f e. refused_verdict f e) c.with_table.ensures (λ left w m. search rules) in
+    record { book_bytes = λ i. (c.type_inv.book i).fits; bytes = λ i. (c.type_inv.certificate i).fits; answered = t.0; cleared = t.1 }

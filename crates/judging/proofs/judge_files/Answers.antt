@@ -5,26 +5,30 @@ use Rattle.judging.proofs.Opened.{refused_placed}
 use Rattle.layout.proofs.Findings.{finding_shut, few_rules, is_beside}
 use lib.ListN.{length-take}
 use native.Mathlib.Omega.{arith}
-use mathlib.Core.Path.{refl, sym, ◌∙◌}
+use mathlib.Core.Path.{◌≡◌, refl, sym, ◌∙◌}
 use Rattle.answers.proofs.Refusing.{refused_verdict}
-use Rattle.std.proofs.Common.{rules}
+use Rattle.std.proofs.Common.{Err, rules}
 use Rattle.judging.proofs.judge_files.Goals as goal
 
-pub returns-then-book-gt16384 : goal.returns-then-book-gt16384
+pub returns-in_err-check_length : goal.returns-in_err-check_length
 unfolding w_of
-returns-then-book-gt16384 c = record {
-  answered = refused_verdict _ c.whole.ensures ∙ sym (book_long _ _ c.if-book-gt16384.true);
-  lent = refl;
-  placed = refused_placed;
-}
+returns-in_err-check_length c =
+    let e : c.from_residual.result ≡ Err c.in_err-check_length.field-0.0 = search rules in
+    record {
+      answered = rw e (refused_verdict _ c.in_err-check_length.ensures.1 ∙ sym (book_long _ _ c.in_err-check_length.ensures.0));
+      lent = refl;
+      placed = rw e refused_placed;
+    }
 
-pub returns-then-certificate-gt32768 : goal.returns-then-certificate-gt32768
+pub returns-in_err-check_length-2 : goal.returns-in_err-check_length-2
 unfolding w_of
-returns-then-certificate-gt32768 c = record {
-  answered = refused_verdict _ c.whole-then-certificate-gt32768.ensures ∙ sym (certificate_long _ _ c.if-book-gt16384.false c.if-certificate-gt32768.true);
-  lent = refl;
-  placed = refused_placed;
-}
+returns-in_err-check_length-2 c =
+    let e : c.from_residual-in_err-check_length-2.result ≡ Err c.in_err-check_length-2.field-0.0 = search rules in
+    record {
+      answered = rw e (refused_verdict _ c.in_err-check_length-2.ensures.1 ∙ sym (certificate_long _ _ c.in_ok-check_length.ensures c.in_err-check_length-2.ensures.0));
+      lent = refl;
+      placed = rw e refused_placed;
+    }
 
 pub slice_bounds-counts-end : goal.slice_bounds-counts-end
 slice_bounds-counts-end c = let h = few_rules c.see_book.ensures c.in-Good.is in search rules
@@ -33,19 +37,19 @@ pub slice_bounds-judge_certificate-end : goal.slice_bounds-judge_certificate-end
 slice_bounds-judge_certificate-end c = let h = few_rules c.see_book.ensures c.in-Good.is in omega (arith, length-take c.in-Good.m c.see_book.new.counts)
 
 pub judge_certificate-requires : goal.judge_certificate-requires
-judge_certificate-requires c = (is_beside c.see_book.ensures c.in-Good.is refl, omega (arith, c.if-certificate-gt32768.false), c.requires)
+judge_certificate-requires c = (is_beside c.see_book.ensures c.in-Good.is refl, omega (arith, c.in_ok-check_length-2.ensures), c.requires)
 
 pub returns-in-Shut : goal.returns-in-Shut
 unfolding paper_verdict
 returns-in-Shut c = record {
-  answered = sym (both_short _ _ c.if-book-gt16384.false c.if-certificate-gt32768.false ∙ book_refused _ _ _ (finding_shut _ _ c.see_book.ensures.told c.in-Shut.is));
+  answered = sym (both_short _ _ c.in_ok-check_length.ensures c.in_ok-check_length-2.ensures ∙ book_refused _ _ _ (finding_shut _ _ c.see_book.ensures.told c.in-Shut.is));
   lent = refl;
   placed = refused_placed;
 }
 
 pub returns-in-Good : goal.returns-in-Good
 returns-in-Good c = record {
-  answered = c.judge_certificate.ensures.answered ∙ sym (both_short _ _ c.if-book-gt16384.false c.if-certificate-gt32768.false);
+  answered = c.judge_certificate.ensures.answered ∙ sym (both_short _ _ c.in_ok-check_length.ensures c.in_ok-check_length-2.ensures);
   lent = c.judge_certificate.ensures.lent;
   placed = c.judge_certificate.ensures.placed;
 }

@@ -1,10 +1,9 @@
--- `verdicts::put_word` meets its contract: one byte of the word after the other.
-use native.Mathlib.Omega.{arith}
-use Rattle.verdicts.proofs.Turns.{copied_none, copied_more}
+-- `verdicts::put_word` meets its contract: the word stands at the front, and the rest is kept.
+use mathlib.Core.Path.{sym, ap, ◌∙◌}
+use mathlib.Core.List.{◌++◌}
+use lib.ListN.{length, drop}
+use Rattle.verdicts.proofs.Puts.{put_front}
 use Rattle.verdicts.proofs.put_word.Goals as goal
 
-pub loop-i-init : goal.loop-i-init
-loop-i-init c = copied_none _ _
-
-pub loop-i-preserved : goal.loop-i-preserved
-loop-i-preserved c = copied_more c.requires (omega arith) c.loop-i.invariant
+pub returns : goal.returns
+returns c = ap (λ t. t ++ drop (length c.args.word.now) c.args.out.now) c.copy_from_slice.ensures.after ∙ sym (put_front _ _)
