@@ -5,6 +5,9 @@ use mathlib.Core.List.{List, [], ◌∷◌}
 use mathlib.Core.Option.{none, some, none-ne-some}
 use native.Mathlib.Omega.{arith}
 use lib.ListN.{get_or, get_elem?}
+use Rattle.std.specs.Prelude.{Result}
+use Rattle.answers.specs.declared.Acceptance.{Acceptance}
+use Rattle.answers.specs.declared.Refusal.{Refusal}
 use Rattle.answers.specs.Carried.{carried}
 use Rattle.answers.specs.Numbers.{paper_verdict}
 use Rattle.patterns.specs.Term.{fill}
@@ -17,7 +20,6 @@ use Rattle.patterns.specs.Demand.{Met, present}
 use Rattle.patterns.specs.Judge.{check, compare, loop_checks, closing_checks, accept, refuse}
 use Rattle.grammar.specs.Listing.{closing_fields}
 use Rattle.verdicts.proofs.Parted.{parted_closing}
-use Rattle.answers.specs.declared.Verdict.{Verdict}
 use Rattle.instances.specs.declared.Read.{Read}
 use Rattle.comparing.specs.declared.Found.{Found}
 use Rattle.comparing.specs.declared.Found.TheVariants.{Fault, Good}
@@ -99,7 +101,7 @@ module _ {book cert w v : List ℕ} {left right : ℕ} {r : Found} (first : Chec
     }
 
 module _ {book cert w v : List ℕ} {line k α : ℕ} {f : Found} (found : ClosingFound book cert line k α w v f) where
-  pub closing_fault : {n p : ℕ} {r : Verdict} → f ≡ Fault n p → paper_verdict r ≡ refuse (carried n closing_place line p) → ClosingBy book cert line k α w v r
+  pub closing_fault : {n p : ℕ} {r : Result Acceptance Refusal} → f ≡ Fault n p → paper_verdict r ≡ refuse (carried n closing_place line p) → ClosingBy book cert line k α w v r
   closing_fault {n} {p} q e = record {
     told = λ ars B es known d i pc filled small.
         let first = at_fault (found.told ars B es known d i pc filled small).1 q in
@@ -109,7 +111,7 @@ module _ {book cert w v : List ℕ} {line k α : ℕ} {f : Found} (found : Closi
     below = found.below;
   }
 
-  pub closing_good : {x : ℕ} {r : Verdict} → f ≡ Good x → paper_verdict r ≡ accept line (pace_of k α) → ClosingBy book cert line k α w v r
+  pub closing_good : {x : ℕ} {r : Result Acceptance Refusal} → f ≡ Good x → paper_verdict r ≡ accept line (pace_of k α) → ClosingBy book cert line k α w v r
   closing_good q e = record {
     told = λ ars B es known d i p filled small.
         e ∙ ap (λ a. accept a (pace_of k α)) (sym i) ∙ ap (accept d.line) (sym p)
@@ -117,7 +119,7 @@ module _ {book cert w v : List ℕ} {line k α : ℕ} {f : Found} (found : Closi
     below = found.below;
   }
 
-pub closing_at : {book cert w v after : List ℕ} {at end : ℕ} {c d e : Read} {r : Verdict} → Takes cert 8 at c → Takes cert 12 c.at d → Takes cert 12 d.at e
+pub closing_at : {book cert w v after : List ℕ} {at end : ℕ} {c d e : Read} {r : Result Acceptance Refusal} → Takes cert 8 at c → Takes cert 12 c.at d → Takes cert 12 d.at e
     → Lists book cert USED e.at w v end → ClosingBy book cert c.value d.value e.value v after r → ClosingAt book cert at w after r
 unfolding closing_fields
 closing_at {book} {cert} {w} {v} {after} {at} {end} {c} {d} {e} tc td te f p = record {

@@ -115,7 +115,7 @@ fn closing_by(
     match closing_parts(book, certificate, w, line, k, alpha) {
         Found::Fault { number: n, part: p } => {
             let refusal = answers::carried(n, W::Closing, line, p);
-            Verdict::Refused(refusal)
+            Err(refusal)
         }
         Found::Good(_) => accepted(line, k, alpha),
     }
@@ -125,7 +125,7 @@ fn closing_by(
 fn accepted(line: usize, k: u16, alpha: u16) -> Verdict
     ensures { paper_verdict result ≡ accept line (pace_of k alpha) }
 {
-    Verdict::Accepted(Acceptance {
+    Ok(Acceptance {
         line,
         k: k as usize,
         alpha: alpha as usize,
@@ -156,7 +156,7 @@ fn lines(book: &[u8], certificate: &[u8], w: &mut [u64], at: usize, k: usize, n:
     while more > 0 {
         match line(book, certificate, w, next, number) {
             Found::Fault { number: m, part } => {
-                return Verdict::Refused(answers::carried(m, W::Line, number, part));
+                return Err(answers::carried(m, W::Line, number, part));
             }
             Found::Good(end) => {
                 next = end;

@@ -5,6 +5,7 @@ use mathlib.Core.List.{List, ◌++◌}
 use mathlib.Core.Bool.{Bool, true, false}
 use mathlib.Core.Option.{none, some, bind}
 use native.Mathlib.Omega.{arith}
+use Rattle.std.specs.Prelude.{Option, Some, None}
 use Rattle.patterns.specs.Term.{Node}
 use Rattle.patterns.specs.First.{Exp, value}
 use Rattle.patterns.specs.Push.{retag}
@@ -28,8 +29,6 @@ use Rattle.instances.proofs.Goings.{Meets, Going, going_start, going_over, going
 use Rattle.calls.specs.Standing.{nodes_from, rest, left_at, Spans, Ends}
 use Rattle.calls.specs.Moving.{Inside}
 use Rattle.calls.specs.declared.Place.{Place}
-use Rattle.calls.specs.declared.Move.{Move}
-use Rattle.calls.specs.declared.Move.TheVariants.{On, Off}
 use Rattle.calls.proofs.Standing.{lessened_none, retag_append, side_nodes, spans_kept, ends_kept}
 use Rattle.matching.specs.Bound.{bindings, state_at, arrived}
 use Rattle.matching.specs.Matching.{Matches, FitsAt}
@@ -95,7 +94,7 @@ module _ (book s : List ℕ) (k at i : ℕ) (w₀ : List ℕ) (spans : Spans w�
       kept = g.kept;
     }
 
-    module _ {h : Header} {q : Stand} (here : Meets book s left p h q) {v : List ℕ} {r : Move} (m : Matches k place (retag (value i) (single h)) w v r) where
+    module _ {h : Header} {q : Stand} (here : Meets book s left p h q) {v : List ℕ} {r : Option Place} (m : Matches k place (retag (value i) (single h)) w v r) where
       -- one node more
       stepped : Ends (arities book) w₀ k 0
           → walk (arities book) (retag (value i) (g.going.met ++ single h)) (begin w₀ k) ≡ arrived (arities book) v k r
@@ -106,7 +105,7 @@ module _ (book s : List ℕ) (k at i : ℕ) (w₀ : List ℕ) (spans : Spans w�
           ∙ ap (λ o. bind o (walk (arities book) (retag (value i) (single h)))) (g.going.holds E)
           ∙ sym (m.told (arities book) (ends_now E))
 
-      pub walking_off : r ≡ Off → FitsAt book s k at i w₀ v false
+      pub walking_off : r ≡ None → FitsAt book s k at i w₀ v false
       unfolding fits found bind arrived
       walking_off z = record {
         told = λ E.
@@ -122,7 +121,7 @@ module _ (book s : List ℕ) (k at i : ℕ) (w₀ : List ℕ) (spans : Spans w�
           more : List (Node Exp)
           more = (passage book s (left - 1) q).met
 
-      pub walking_on : {next : Place} → r ≡ On next → Walking book s k at i w₀ v next (left - 1) q
+      pub walking_on : {next : Place} → r ≡ Some next → Walking book s k at i w₀ v next (left - 1) q
       unfolding arrived Inside
       walking_on z = record {
         going = going_on g.going here (λ E. stepped E ∙ ap (arrived (arities book) v k) z);

@@ -1,6 +1,7 @@
 -- `calls::arity_of` meets its contract.
+use native.Mathlib.Omega.{arith}
 use Rattle.calls.proofs.Arities.{large_symbol}
 use Rattle.calls.proofs.arity_of.Goals as goal
 
-pub returns-then-f-gt255 : goal.returns-then-f-gt255
-returns-then-f-gt255 c = large_symbol _ _ c.if-f-gt255.true
+pub returns-in_default : goal.returns-in_default
+returns-in_default c = large_symbol _ _ (omega (arith, c.in_default.ensures))

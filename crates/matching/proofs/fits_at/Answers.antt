@@ -25,7 +25,7 @@ pub loop-place-smaller : goal.loop-place-smaller
 loop-place-smaller c = omega (arith, (meets _ _ _ _ _ c.is_over.ensures (ap not c.loop-place-test.true) c.loop-place.invariant.going.few c.view.ensures c.room.ensures c.header_of-header.ensures c.next-stand.ensures).some)
 
 pub loop-place-preserved : goal.loop-place-preserved
-loop-place-preserved c = walking_on _ _ _ _ _ _ (forgot_spans c.forget.ensures c.requires) c.loop-place.invariant (meets _ _ _ _ _ c.is_over.ensures (ap not c.loop-place-test.true) c.loop-place.invariant.going.few c.view.ensures c.room.ensures c.header_of-header.ensures c.next-stand.ensures) c.match_node.ensures c.in-On.is
+loop-place-preserved c = walking_on _ _ _ _ _ _ (forgot_spans c.forget.ensures c.requires) c.loop-place.invariant (meets _ _ _ _ _ c.is_over.ensures (ap not c.loop-place-test.true) c.loop-place.invariant.going.few c.view.ensures c.room.ensures c.header_of-header.ensures c.next-stand.ensures) c.match_node.ensures c.in-Some.is
 
 pub returns : goal.returns
 returns c = forgot_fits c.forget.ensures c.requires.few (walking_over _ _ _ _ _ _ (forgot_spans c.forget.ensures c.requires) c.loop-place.invariant (is_ended _ _ _ c.is_over.ensures (ap not c.loop-place-test.false)))
