@@ -25,9 +25,9 @@ use Rattle.table.proofs.Parting.{parts_low, parts_none, parts_some}
 
 -- ---- none has come
 
-pub held_none : (w : List ℕ) (base n : ℕ) → Tracks w base n (record { nodes = 0; parts = n; power = record { code = 0; a = 0; b = 0 } }) []
+pub held_none : (w : List ℕ) (base n : ℕ) {h : Held} → h.nodes ≡ 0 → h.parts ≡ n → h.power.code ≡ 0 → Tracks w base n h []
 unfolding put
-held_none w base n = rests refl (λ s e. refl) (record { nodes = refl; parts = none refl })
+held_none w base n few all rest = rests rest (λ s e. refl) (record { nodes = few; parts = none all })
 
 -- ---- a power is settled
 
