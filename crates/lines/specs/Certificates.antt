@@ -13,12 +13,11 @@ use Rattle.grammar.specs.Listing.{line_fields, kind_fields, kind_number, closing
 use Rattle.grammar.specs.Limits.{ClaimFits, KindFits, LinesFit, ClosingFits, call_counts, BookFits, CertificateFits}
 use Rattle.table.specs.Places.{LEFTS, RIGHTS, OWN, USED, FIRST}
 use Rattle.answers.specs.declared.Verdict.{Verdict}
-use Rattle.comparing.specs.declared.Found.{Found}
 use Rattle.instances.specs.Lying.{Lies, KnownArities}
 use Rattle.instances.specs.Fillings.{FillsTold}
 use Rattle.begins.specs.Placed.{RightAt, LeftAt}
 use Rattle.begins.specs.Known.{Below, Known}
-use Rattle.comparing.specs.Found.{Finds}
+use Rattle.comparing.specs.Found.{Found, Finds}
 
 abbrev pub pace_of : ℕ → ℕ → Pace
 pace_of k α = record { k = k; α = α }

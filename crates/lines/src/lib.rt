@@ -74,7 +74,7 @@ fn closing_parts(
         j: later,
         filled: Filled::Used,
     };
-    match comparing::check(
+    comparing::check(
         book,
         certificate,
         w,
@@ -84,20 +84,18 @@ fn closing_parts(
         Behind::Nothing,
         Subject::Empty,
         Subject::Empty,
-    ) {
-        Found::Fault { number: n, part: p } => Found::Fault { number: n, part: p },
-        Found::Good(_) => comparing::check(
-            book,
-            certificate,
-            w,
-            Whole::Closing,
-            1,
-            right,
-            Behind::Nothing,
-            first,
-            second,
-        ),
-    }
+    )?;
+    comparing::check(
+        book,
+        certificate,
+        w,
+        Whole::Closing,
+        1,
+        right,
+        Behind::Nothing,
+        first,
+        second,
+    )
 }
 
 // The verdict of a closing, its filling indexed.
@@ -113,11 +111,11 @@ fn closing_by(
     ensures { ClosingBy book.now certificate.now line k alpha w.old w.new result }
 {
     match closing_parts(book, certificate, w, line, k, alpha) {
-        Found::Fault { number: n, part: p } => {
-            let refusal = answers::carried(n, W::Closing, line, p);
+        Err(fault) => {
+            let refusal = answers::carried(fault.number, W::Closing, line, fault.part);
             Verdict::Refused(refusal)
         }
-        Found::Good(_) => accepted(line, k, alpha),
+        Ok(_) => accepted(line, k, alpha),
     }
 }
 
@@ -151,19 +149,16 @@ fn lines(book: &[u8], certificate: &[u8], w: &mut [u64], at: usize, k: usize, n:
     ensures { LinesAt book.now certificate.now at k n w.old w.new result }
 {
     let mut next = at;
-    let mut number = k;
-    let mut more = n;
-    while more > 0 {
+    for number in k..k + n {
         match line(book, certificate, w, next, number) {
-            Found::Fault { number: m, part } => {
-                return Verdict::Refused(answers::carried(m, W::Line, number, part));
+            Err(fault) => {
+                let refusal = answers::carried(fault.number, W::Line, number, fault.part);
+                return Verdict::Refused(refusal);
             }
-            Found::Good(end) => {
+            Ok(end) => {
                 next = end;
             }
         }
-        number += 1;
-        more -= 1;
     }
     closing(book, certificate, w, next)
 }

@@ -1,16 +1,19 @@
 -- `lines::lines` meets its contract. The loop's invariant: what is judged of the lines left is judged of the whole.
+use native.Mathlib.Omega.{arith}
 use Rattle.answers.specs.Numbers.{w_of}
-use Rattle.lines.proofs.Going.{goes_end, goes_fault, goes_on}
 use Rattle.answers.proofs.Refusing.{refused_verdict}
-use Rattle.std.proofs.Common.{rules}
+use Rattle.lines.proofs.Going.{goes_here, goes_end, goes_fault, goes_on}
 use Rattle.lines.proofs.lines.Goals as goal
 
-pub returns-in-Fault : goal.returns-in-Fault
-unfolding w_of
-returns-in-Fault c = goes_fault c.loop-more.invariant.2 c.loop-more-test.true c.loop-more.invariant.1 c.line.ensures c.in-Fault.is (refused_verdict _ c.carried.ensures)
+pub loop-number-init : goal.loop-number-init
+loop-number-init c = goes_here (omega arith)
 
-pub loop-more-preserved : goal.loop-more-preserved
-loop-more-preserved c = (search rules, search rules, goes_on c.loop-more.invariant.2 c.loop-more-test.true c.loop-more.invariant.1 c.line.ensures c.in-Good.is)
+pub returns-in-Err : goal.returns-in-Err
+unfolding w_of
+returns-in-Err c = goes_fault c.loop-number.invariant (omega arith) (omega arith) c.line.ensures c.in-Err.is (refused_verdict _ c.carried-refusal.ensures)
+
+pub loop-number-preserved : goal.loop-number-preserved
+loop-number-preserved c = goes_on c.loop-number.invariant (omega arith) (omega arith) c.line.ensures c.in-Ok.is (omega arith)
 
 pub returns : goal.returns
-returns c = goes_end c.loop-more.invariant.2 c.loop-more-test.false c.closing.ensures
+returns c = goes_end c.loop-number.invariant (omega arith) c.closing.ensures
