@@ -1,5 +1,5 @@
 -- The code's answers in 01's numbers: "a definition provides this paper's number and values for each of the enum's cases".
-use Rattle.std.specs.Prelude.{ℕ}
+use Rattle.std.specs.Prelude.{ℕ, Result, Ok, Err}
 use Rattle.patterns.specs.First.{Pace}
 use Rattle.patterns.specs.Reason.{Reason, book_place, certificate_place, line_place, closing_place, neither_place, call_place}
 use Rattle.patterns.specs.Judge.{Ruling, accept, refuse}
@@ -7,12 +7,6 @@ use Rattle.answers.specs.declared.W.{W}
 use Rattle.answers.specs.declared.W.TheVariants.{Book, Certificate, Line, Closing, Neither, Call}
 use Rattle.answers.specs.declared.Refusal.{Refusal}
 use Rattle.answers.specs.declared.Acceptance.{Acceptance}
-use Rattle.answers.specs.declared.Verdict.{Verdict}
-use Rattle.answers.specs.declared.Verdict.TheVariants.{Accepted, Refused as Denied}
-use Rattle.answers.specs.declared.Answer.{Answer}
-use Rattle.answers.specs.declared.Answer.TheVariants.{Filled, Refused}
-use Rattle.answers.specs.declared.Coverage.{Coverage}
-use Rattle.answers.specs.declared.Coverage.TheVariants.{Covered, Refused as Barred}
 
 -- 01: "W (0 book, 1 certificate, 2 line, 3 closing, 4 neither)"; 02, Ticket 1: "3 to 7 for the call, with W = 5"
 unfoldable pub w_of : W → ℕ
@@ -31,24 +25,24 @@ paper_refusal r = record { number = r.number; w = w_of r.w; a = r.a; b = r.b }
 unfoldable pub paper_pace : Acceptance → Pace
 paper_pace a = record { k = a.k; α = a.alpha }
 
-unfoldable pub paper_verdict : Verdict → Ruling Pace
-paper_verdict (Accepted a) = accept a.line (paper_pace a)
-paper_verdict (Denied r) = refuse (paper_refusal r)
+unfoldable pub paper_verdict : Result Acceptance Refusal → Ruling Pace
+paper_verdict (Ok a) = accept a.line (paper_pace a)
+paper_verdict (Err r) = refuse (paper_refusal r)
 
 -- what reading and writing answer: "they answer the number of places filled"
 pub data Told : Type 0 where
   filled_with : ℕ → Told
   refused_with : Reason → Told
 
-unfoldable pub paper_answer : Answer → Told
-paper_answer (Filled n) = filled_with n
-paper_answer (Refused r) = refused_with (paper_refusal r)
+unfoldable pub paper_answer : Result ℕ Refusal → Told
+paper_answer (Ok n) = filled_with n
+paper_answer (Err r) = refused_with (paper_refusal r)
 
 -- 02, Ticket 1, what `covers` answers: "If yes, give the smallest such index."
 pub data Reply : Type 0 where
   covered_at : ℕ → Reply
   denied : Reason → Reply
 
-unfoldable pub paper_coverage : Coverage → Reply
-paper_coverage (Covered n) = covered_at n
-paper_coverage (Barred r) = denied (paper_refusal r)
+unfoldable pub paper_coverage : Result ℕ Refusal → Reply
+paper_coverage (Ok n) = covered_at n
+paper_coverage (Err r) = denied (paper_refusal r)

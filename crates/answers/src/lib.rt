@@ -5,19 +5,20 @@ ghost use Rattle.std.specs.Prelude.{◌≡◌};
 ghost use Rattle.answers.specs.Numbers.{w_of, paper_refusal};
 ghost use Rattle.answers.specs.Carried.{refusal_at, carried};
 
-// What a refusal speaks of.
-#[derive(Clone, Copy)]
+// What a refusal speaks of, with 01's numbers, and 02's for a call.
+#[derive(Clone, Copy, Debug, PartialEq, Eq)]
 pub enum W {
-    Book,
-    Certificate,
-    Line,
-    Closing,
-    Neither,
-    Call,
+    Book = 0,
+    Certificate = 1,
+    Line = 2,
+    Closing = 3,
+    Neither = 4,
+    Call = 5,
 }
 
-// A refusal: its number, what it speaks of, and the place there.
-#[derive(Clone, Copy)]
+// A refusal: its number, what it speaks of, and the place there. The number is a number and no enum, since 01 fixes the
+// refusals by number, and `carried` below and `verdicts::verdict_line` promise an answer for every one.
+#[derive(Clone, Copy, Debug, PartialEq, Eq)]
 pub struct Refusal {
     pub number: u16,
     pub w: W,
@@ -26,47 +27,28 @@ pub struct Refusal {
 }
 
 // A certificate that was accepted: the line that its closing names, the step k and the start α.
-#[derive(Clone, Copy)]
+#[derive(Clone, Copy, Debug, PartialEq, Eq)]
 pub struct Acceptance {
     pub line: usize,
     pub k: usize,
     pub alpha: usize,
 }
 
-// What the judge answers.
-#[derive(Clone, Copy)]
-pub enum Verdict {
-    Accepted(Acceptance),
-    Refused(Refusal),
-}
+// What the judge answers: an acceptance, or a refusal.
+pub type Verdict = Result<Acceptance, Refusal>;
 
 // What reading and writing answer: how many places were filled, or a refusal.
-#[derive(Clone, Copy)]
-pub enum Answer {
-    Filled(usize),
-    Refused(Refusal),
-}
+pub type Answer = Result<usize, Refusal>;
 
 // What `covers` answers: the smallest index at which the call is covered, or a refusal.
-#[derive(Clone, Copy)]
-pub enum Coverage {
-    Covered(usize),
-    Refused(Refusal),
-}
+pub type Coverage = Result<usize, Refusal>;
 
 // The number of what a refusal speaks of.
 #[tactic(auto, unfolding(crate::specs::Numbers::w_of))]
 pub fn w_number(w: W) -> usize
     ensures { result ≡ w_of w }
 {
-    match w {
-        W::Book => 0,
-        W::Certificate => 1,
-        W::Line => 2,
-        W::Closing => 3,
-        W::Neither => 4,
-        W::Call => 5,
-    }
+    w as usize
 }
 
 // A refusal with what its number carries: 3 to 7 a place in a file, 9 to 16 a line and a part of it, the others neither.

@@ -144,20 +144,20 @@ fn print_verdict(rt: &impl Print, verdict: Verdict) {
 // Prints what reading or writing answers.
 fn print_answer(rt: &impl Print, said: Answer) {
     match said {
-        Answer::Filled(n) => {
+        Ok(n) => {
             let _ = print!(rt; "filled {n}");
         }
-        Answer::Refused(r) => print_verdict(rt, Verdict::Refused(r)),
+        Err(r) => print_verdict(rt, Err(r)),
     }
 }
 
 // Prints what is answered for a call.
 fn print_coverage(rt: &impl Print, coverage: Coverage) {
     match coverage {
-        Coverage::Covered(i) => {
+        Ok(i) => {
             let _ = print!(rt; "covered {i}");
         }
-        Coverage::Refused(r) => print_verdict(rt, Verdict::Refused(r)),
+        Err(r) => print_verdict(rt, Err(r)),
     }
 }
 

@@ -1,5 +1,5 @@
 -- The first of some checks that is not met, of lists one after the other, and of a comparison.
-use Rattle.std.proofs.Common.{Ok, Err, IsErrAnd}
+use Rattle.std.proofs.Common.{Result, Ok, Err, IsErrAnd}
 use Rattle.std.proofs.lemmas.Result.{err_from_is_err_and}
 use Prim.Native.Nat.{ℕ}
 use mathlib.Core.Path.{◌≡◌, refl, sym, subst, ap, ◌∙◌}
@@ -68,7 +68,7 @@ unfolding Tells
 finds_fault h q = record { is = at_fault h q }
 
 -- what is handed on to a caller is the fault that was met
-pub handed_on : {f : Fault} (r : Found) → IsErrAnd r (λ y. y ≡ f) → r ≡ Err f
+pub handed_on : {T E : Type 0} {f : E} (r : Result T E) → IsErrAnd r (λ y. y ≡ f) → r ≡ Err f
 handed_on r h = let p = err_from_is_err_and r h in p.1 ∙ ap Err p.2
 
 -- where all are met another end may be told

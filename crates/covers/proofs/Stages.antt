@@ -4,14 +4,11 @@ use mathlib.Core.Path.{◌≡◌, refl, sym, ◌∙◌, ap, subst}
 use mathlib.Core.List.{List}
 use native.Mathlib.Omega.{arith}
 use lib.ListN.{get_or}
+use Rattle.std.specs.Prelude.{Result, Ok, Err}
 use Rattle.answers.specs.Carried.{refusal_at}
 use Rattle.answers.specs.Numbers.{Reply, denied, paper_refusal, paper_pace, paper_verdict, paper_coverage}
 use Rattle.answers.specs.declared.Refusal.{Refusal}
 use Rattle.answers.specs.declared.Acceptance.{Acceptance}
-use Rattle.answers.specs.declared.Coverage.{Coverage}
-use Rattle.answers.specs.declared.Coverage.TheVariants.{Covered, Refused}
-use Rattle.answers.specs.declared.Verdict.{Verdict}
-use Rattle.answers.specs.declared.Verdict.TheVariants.{Accepted, Refused as Denied}
 use Rattle.answers.proofs.Refusing.{refused_coverage}
 use Rattle.bits.specs.Bits.{Bytes}
 use Rattle.patterns.specs.Reason.{call_place, neither_place}
@@ -50,11 +47,11 @@ use Rattle.covers.proofs.Exactly.{named_claim}
 
 -- ---- the index found
 
-pub at_told : {s : Index} {i : ℕ} → s ≡ At i → paper_coverage (Covered i) ≡ told_index (index_found s)
+pub at_told : {s : Index} {i : ℕ} → s ≡ At i → paper_coverage (Ok i) ≡ told_index (index_found s)
 unfolding paper_coverage told_index index_found
 at_told e = rw e
 
-pub nowhere_told : {s : Index} (q : Refusal) → s ≡ Nowhere → paper_refusal q ≡ not_covered → paper_coverage (Refused q) ≡ told_index (index_found s)
+pub nowhere_told : {s : Index} (q : Refusal) → s ≡ Nowhere → paper_refusal q ≡ not_covered → paper_coverage (Err q) ≡ told_index (index_found s)
 unfolding told_index index_found
 nowhere_told q e f = refused_coverage q f ∙ rw e
 
@@ -76,13 +73,13 @@ where_opened : (o : Opened Pattern) (f : Pattern → Reply) {c : Pattern} {fs : 
 where_opened o f e = rw e
 
 module _ {book certificate call : List ℕ} {at α : ℕ} {o : Opening} (C : CallOpened book call o) where
-  pub call_shut : {r : Refusal} → o ≡ Shut r → AsksCall book certificate call at α (Refused r)
+  pub call_shut : {r : Refusal} → o ≡ Shut r → AsksCall book certificate call at α (Err r)
   unfolding paper_coverage
   call_shut {r} e = record {
     told = λ b fs h t l. let s = opening_shut nothing (open_call b call) (C.told b fs h) e in rw s;
   }
 
-  pub call_searched : {v n k : ℕ} {w after : List ℕ} {s : Index} {r : Coverage} → o ≡ Open v n k
+  pub call_searched : {v n k : ℕ} {w after : List ℕ} {s : Index} {r : Result ℕ Refusal} → o ≡ Open v n k
       → Searches book certificate call at α w after s → paper_coverage r ≡ told_index (index_found s)
       → AsksCall book certificate call at α r
   call_searched e S q = record {
@@ -120,7 +117,7 @@ module _ {book certificate work : List ℕ} {a : Acceptance} (h : Ready book cer
       let e : a.alpha ≡ acceptable.tree.closing.pace.α = ap (λ (p : Pace). p.α) acceptable.own_pace in
       omega (arith, e, acceptable.certificate_file.limits.closing.pace)
 
-  pub accepted_asked : {call : List ℕ} {at α : ℕ} {r : Coverage} → at ≡ get_or work (LEFTS + a.line) 0 → α ≡ a.alpha
+  pub accepted_asked : {call : List ℕ} {at α : ℕ} {r : Result ℕ Refusal} → at ≡ get_or work (LEFTS + a.line) 0 → α ≡ a.alpha
       → AsksCall book certificate call at α r → paper_coverage r ≡ asking_accepted book certificate call a.line (paper_pace a)
   unfolding paper_verdict paper_pace
   accepted_asked {call} {at} {α} {r} e f A =
@@ -135,18 +132,18 @@ module _ {book certificate work : List ℕ} {a : Acceptance} (h : Ready book cer
 
 -- ---- the verdict
 
-module _ (book certificate call : List ℕ) {v : Verdict} {j : Ruling Pace} (told : paper_verdict v ≡ j) where
-  pub refused_asked : {r : Refusal} → v ≡ Denied r → paper_coverage (Refused r) ≡ asking_judged book certificate call j
+module _ (book certificate call : List ℕ) {v : Result Acceptance Refusal} {j : Ruling Pace} (told : paper_verdict v ≡ j) where
+  pub refused_asked : {r : Refusal} → v ≡ Err r → paper_coverage (Err r) ≡ asking_judged book certificate call j
   unfolding paper_verdict paper_coverage asking_judged
   refused_asked e = ap (asking_judged book certificate call) (ap paper_verdict (sym e) ∙ told)
 
-  pub accepted_judged : {a : Acceptance} (r : Coverage) → v ≡ Accepted a
+  pub accepted_judged : {a : Acceptance} (r : Result ℕ Refusal) → v ≡ Ok a
       → paper_coverage r ≡ asking_accepted book certificate call a.line (paper_pace a) → paper_coverage r ≡ asking_judged book certificate call j
   unfolding paper_verdict asking_judged
   accepted_judged r e q = q ∙ ap (asking_judged book certificate call) (ap paper_verdict (sym e) ∙ told)
 
-pub accepted_ready : {book certificate work : List ℕ} {v : Verdict} {a : Acceptance} → Bytes book → Bytes certificate
-    → paper_verdict v ≡ judging_files book certificate → Placed book certificate work v → v ≡ Accepted a → Ready book certificate work a
+pub accepted_ready : {book certificate work : List ℕ} {v : Result Acceptance Refusal} {a : Acceptance} → Bytes book → Bytes certificate
+    → paper_verdict v ≡ judging_files book certificate → Placed book certificate work v → v ≡ Ok a → Ready book certificate work a
 accepted_ready {book} {certificate} {work} x y told placed e = record {
   book_bytes = x;
   certificate_bytes = y;
@@ -158,10 +155,10 @@ accepted_ready {book} {certificate} {work} x y told placed e = record {
 
 module _ (book certificate call : List ℕ) {size : ℕ} where
   pub short_asked : (q : Refusal) → size < WORDS → paper_refusal q ≡ refusal_at 1 neither_place 0
-      → paper_coverage (Refused q) ≡ asking book certificate call size
+      → paper_coverage (Err q) ≡ asking book certificate call size
   short_asked q h e = refused_coverage q e ∙ sym (verdict_refused book certificate call size _ (table_short book certificate size h))
 
-  pub files_asked : (r : Coverage) → WORDS ≤ size → paper_coverage r ≡ asking_judged book certificate call (judging_files book certificate)
+  pub files_asked : (r : Result ℕ Refusal) → WORDS ≤ size → paper_coverage r ≡ asking_judged book certificate call (judging_files book certificate)
       → paper_coverage r ≡ asking book certificate call size
   unfolding asking
   files_asked r h e = e ∙ ap (asking_judged book certificate call) (sym (table_enough book certificate size h))

@@ -10,7 +10,7 @@ ghost use Rattle.covers.specs.Asking.{told_index, asking_accepted, asking_judged
 ghost use Rattle.covers.specs.Stages.{Ready, AsksCall};
 ghost use Rattle.covers.specs.Told.{CoverTold};
 
-use answers::{Acceptance, Coverage, Verdict, W};
+use answers::{Acceptance, Coverage, W};
 use layout::Opening;
 use matching::Index;
 use table::LEFTS;
@@ -20,8 +20,8 @@ fn index_told(found: Index) -> Coverage
     ensures { paper_coverage result ≡ told_index (index_found found) }
 {
     match found {
-        Index::At(i) => Coverage::Covered(i),
-        Index::Nowhere => Coverage::Refused(answers::whole(17, W::Neither)),
+        Index::At(i) => Ok(i),
+        Index::Nowhere => Err(answers::whole(17, W::Neither)),
     }
 }
 
@@ -39,7 +39,7 @@ fn ask_call(
     ensures lent { length work.new ≡ length work.old }
 {
     match layout::open_call(book, call) {
-        Opening::Shut(r) => Coverage::Refused(r),
+        Opening::Shut(r) => Err(r),
         Opening::Open { .. } => index_told(matching::search(
             book,
             certificate,
@@ -75,8 +75,8 @@ fn ask_files(book: &[u8], certificate: &[u8], call: &[u8], work: &mut [u64]) -> 
     ensures lent { length work.new ≡ length work.old }
 {
     match judging::judge_files(book, certificate, work) {
-        Verdict::Refused(r) => Coverage::Refused(r),
-        Verdict::Accepted(a) => ask_accepted(book, certificate, call, work, a),
+        Err(r) => Err(r),
+        Ok(a) => ask_accepted(book, certificate, call, work, a),
     }
 }
 
@@ -93,7 +93,7 @@ pub fn covers(book: &[u8], certificate: &[u8], call: &[u8], work: &mut [u64]) ->
     ensures { CoverTold book.now certificate.now call.now work.old result work.new }
 {
     if judging::is_short(work) {
-        return Coverage::Refused(answers::whole(1, W::Neither));
+        return Err(answers::whole(1, W::Neither));
     }
     cleared(ask_files(book, certificate, call, work), work)
 }

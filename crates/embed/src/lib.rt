@@ -40,8 +40,8 @@ fn answer_numbers(said: Answer) -> [u64; 5]
     ensures { result ≡ answer_numbers (paper_answer said) }
 {
     match said {
-        Answer::Filled(n) => [0, n as u64, 0, 0, 0],
-        Answer::Refused(r) => refusal_numbers(r),
+        Ok(n) => [0, n as u64, 0, 0, 0],
+        Err(r) => refusal_numbers(r),
     }
 }
 
@@ -51,8 +51,8 @@ fn verdict_numbers(verdict: Verdict) -> [u64; 5]
     ensures { result ≡ verdict_numbers (paper_verdict verdict) }
 {
     match verdict {
-        Verdict::Accepted(a) => [0, a.line as u64, a.k as u64, a.alpha as u64, 0],
-        Verdict::Refused(r) => refusal_numbers(r),
+        Ok(a) => [0, a.line as u64, a.k as u64, a.alpha as u64, 0],
+        Err(r) => refusal_numbers(r),
     }
 }
 
@@ -62,8 +62,8 @@ fn coverage_numbers(coverage: Coverage) -> [u64; 5]
     ensures { result ≡ coverage_numbers (paper_coverage coverage) }
 {
     match coverage {
-        Coverage::Covered(i) => [0, i as u64, 0, 0, 0],
-        Coverage::Refused(r) => refusal_numbers(r),
+        Ok(i) => [0, i as u64, 0, 0, 0],
+        Err(r) => refusal_numbers(r),
     }
 }
 

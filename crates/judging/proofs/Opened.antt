@@ -5,7 +5,9 @@ use mathlib.Core.Path.{◌≡◌, refl, sym, subst, ◌∙◌}
 use mathlib.Core.Bool.{false}
 use mathlib.Core.List.{List, []}
 use native.Mathlib.Omega.{arith}
+use Rattle.std.specs.Prelude.{Result, Err}
 use Rattle.fields.specs.Source.{start}
+use Rattle.answers.specs.declared.Acceptance.{Acceptance}
 use Rattle.answers.specs.Numbers.{paper_refusal, paper_verdict}
 use Rattle.bits.specs.Bits.{room_of}
 use Rattle.bits.specs.Packed.{width, Reads}
@@ -32,8 +34,6 @@ use Rattle.layout.proofs.Findings.{finding_shut, finding_good}
 use Rattle.layout.proofs.Besides.{arities_known}
 use Rattle.instances.specs.Lying.{Lies, KnownArities}
 use Rattle.lines.specs.Certificates.{JudgesLines}
-use Rattle.answers.specs.declared.Verdict.{Verdict}
-use Rattle.answers.specs.declared.Verdict.TheVariants.{Refused}
 use Rattle.verdicts.specs.Judging.{judging_certificate}
 use Rattle.verdicts.proofs.Layers.{certificate_refused, both_opened}
 use Rattle.judging.specs.Placed.{Placed}
@@ -85,13 +85,13 @@ certificate_lies {s} {b} {K} {fs} f e =
 -- ---- the certificate beside its book
 
 module _ {book counts certificate : List ℕ} {o : Finding} (B : Beside book counts) (C : CertificateSeen book certificate o) where
-  pub certificate_shut : {r : Refusal} → o ≡ Shut r → paper_verdict (Refused r) ≡ judging_certificate book certificate
+  pub certificate_shut : {r : Refusal} → o ≡ Shut r → paper_verdict (Err r) ≡ judging_certificate book certificate
   unfolding paper_verdict
   certificate_shut {r} e =
       sym (certificate_refused book certificate B.tree B.fields B.opened (paper_refusal r)
       (finding_shut nothing (open_certificate B.tree certificate) (C.told B.tree B.fields B.opened) e))
 
-  pub certificate_judged : {v : ℕ} {w after : List ℕ} {r : Verdict} → o ≡ Good v → JudgesLines book certificate w after r
+  pub certificate_judged : {v : ℕ} {w after : List ℕ} {r : Result Acceptance Refusal} → o ≡ Good v → JudgesLines book certificate w after r
       → paper_verdict r ≡ judging_certificate book certificate
   certificate_judged e j =
       let g = finding_good nothing (open_certificate B.tree certificate) (C.told B.tree B.fields B.opened) e in
@@ -102,11 +102,11 @@ module _ {book counts certificate : List ℕ} {o : Finding} (B : Beside book cou
 
 -- ---- where the named line's left lies
 
-pub refused_placed : {book certificate after : List ℕ} {r : Refusal} → Placed book certificate after (Refused r)
+pub refused_placed : {book certificate after : List ℕ} {r : Refusal} → Placed book certificate after (Err r)
 unfolding paper_verdict
 refused_placed = record { left = λ line pace a b fs e K gs f p named. let z : ◌≡◌ {A = ℕ} 0 1 = cc in absurd (omega arith) }
 
-pub judged_placed : {book certificate w after : List ℕ} {r : Verdict} → JudgesLines book certificate w after r → Placed book certificate after r
+pub judged_placed : {book certificate w after : List ℕ} {r : Result Acceptance Refusal} → JudgesLines book certificate w after r → Placed book certificate after r
 judged_placed {book} j = record {
   left = λ line pace a b fs e K gs f p named.
       let x = book_lies e in

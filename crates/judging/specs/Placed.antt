@@ -1,9 +1,10 @@
 -- What an accepted certificate leaves in the work table for whatever asks more of it: the bit where the left of the named line begins.
-use Rattle.std.specs.Prelude.{ℕ, ◌+◌, ◌≡◌, List, map, get_or}
+use Rattle.std.specs.Prelude.{ℕ, ◌+◌, ◌≡◌, List, map, get_or, Result}
 use Rattle.std.proofs.Math.Option.{some}
 use Rattle.std.proofs.Math.ListN.{get_elem?}
+use Rattle.answers.specs.declared.Acceptance.{Acceptance}
+use Rattle.answers.specs.declared.Refusal.{Refusal}
 use Rattle.answers.specs.Numbers.{paper_verdict}
-use Rattle.answers.specs.declared.Verdict.{Verdict}
 use Rattle.patterns.specs.First.{Exp, Pair, Pace}
 use Rattle.patterns.specs.Certificate.{Claim, Certificate, claim_of}
 use Rattle.patterns.specs.Judge.{accept}
@@ -14,7 +15,7 @@ use Rattle.table.specs.Places.{LEFTS}
 use Rattle.begins.specs.Placed.{LeftAt}
 
 -- r was answered and the table `after` left. Of a refusal nothing is said.
-pub record Placed (book certificate after : List ℕ) (r : Verdict) : Type 0 where
+pub record Placed (book certificate after : List ℕ) (r : Result Acceptance Refusal) : Type 0 where
   pub left : (line : ℕ) (pace : Pace) → paper_verdict r ≡ accept line pace → (b : RuleBook) (fs : Fields) → open_book book ≡ good b fs
       → (K : Certificate Exp Pair Pace) (gs : Fields) → open_certificate b certificate ≡ good K gs
       → (p : Claim Exp) → get_elem? (map claim_of K.lines) line ≡ some p

@@ -23,7 +23,7 @@ fn judge_certificate(book: &[u8], counts: &[u8], certificate: &[u8], work: &mut 
     ensures placed { Placed book.now certificate.now work.new result }
 {
     match see_certificate(book, counts, certificate) {
-        Finding::Shut(r) => Verdict::Refused(r),
+        Finding::Shut(r) => Err(r),
         Finding::Good(_) => lines::judge_lines(book, certificate, work),
     }
 }
@@ -37,14 +37,14 @@ pub fn judge_files(book: &[u8], certificate: &[u8], work: &mut [u64]) -> Verdict
     ensures placed { Placed book.now certificate.now work.new result }
 {
     if book.len() > 16384 {
-        return Verdict::Refused(answers::whole(2, W::Book));
+        return Err(answers::whole(2, W::Book));
     }
     if certificate.len() > 32768 {
-        return Verdict::Refused(answers::whole(2, W::Certificate));
+        return Err(answers::whole(2, W::Certificate));
     }
     let mut counts = [0u8; 256];
     match see_book(book, &mut counts) {
-        Finding::Shut(r) => Verdict::Refused(r),
+        Finding::Shut(r) => Err(r),
         Finding::Good(m) => judge_certificate(book, &counts[..m], certificate, work),
     }
 }
@@ -60,7 +60,7 @@ pub fn is_short(work: &[u64]) -> bool
 fn short_table() -> Verdict
     ensures { paper_verdict result ≡ refusal_one }
 {
-    Verdict::Refused(answers::whole(1, W::Neither))
+    Err(answers::whole(1, W::Neither))
 }
 
 // The verdict, with all numbers of the work table set to 0.
@@ -96,14 +96,14 @@ fn judge_framed(input: &[u8], work: &mut [u64]) -> Verdict
     ensures lent { length work.new ≡ length work.old }
 {
     if input.len() > 49154 {
-        return Verdict::Refused(answers::whole(2, W::Neither));
+        return Err(answers::whole(2, W::Neither));
     }
     if input.len() < 2 {
-        return Verdict::Refused(answers::whole(3, W::Neither));
+        return Err(answers::whole(3, W::Neither));
     }
     let end = 2 + book_length(input);
     if input.len() < end {
-        return Verdict::Refused(answers::whole(3, W::Neither));
+        return Err(answers::whole(3, W::Neither));
     }
     judge_files(&input[2..end], &input[end..], work)
 }

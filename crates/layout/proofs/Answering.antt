@@ -5,11 +5,10 @@ use mathlib.Core.List.{List, [], ◌∷◌, ◌++◌}
 use native.Mathlib.Omega.{arith}
 use borrow.Author.Tests.{lt-ltb, le-ltb}
 use lib.ListN.{length, drop}
+use Rattle.std.specs.Prelude.{Result, Ok, Err}
 use Rattle.answers.specs.Carried.{refusal_at}
 use Rattle.answers.specs.Numbers.{filled_with, refused_with, paper_refusal, paper_answer}
 use Rattle.patterns.specs.Reason.{Reason}
-use Rattle.answers.specs.declared.Answer.{Answer}
-use Rattle.answers.specs.declared.Answer.TheVariants.{Filled, Refused}
 use Rattle.layout.specs.declared.Opening.{Opening}
 use Rattle.layout.specs.declared.Opening.TheVariants.{Open, Shut}
 use Rattle.answers.specs.declared.Refusal.{Refusal}
@@ -37,16 +36,16 @@ eight_case = refl
 -- ---- what is answered
 
 module _ (w : ℕ) (g : Given) (out : List ℕ) where
-  pub answers_refusal : (r : Answer) {q : Reason} → g ≡ refuses q → paper_answer r ≡ refused_with q → Answers w g out r out
+  pub answers_refusal : (r : Result ℕ Refusal) {q : Reason} → g ≡ refuses q → paper_answer r ≡ refused_with q → Answers w g out r out
   unfolding told output
   answers_refusal r e p = record { answered = p ∙ rw e; filled = rw e }
 
   -- a refusal that was handed on
-  pub answers_shut : (q : Refusal) → g ≡ refuses (paper_refusal q) → Answers w g out (Refused q) out
+  pub answers_shut : (q : Refusal) → g ≡ refuses (paper_refusal q) → Answers w g out (Err q) out
   unfolding paper_answer
-  answers_shut q e = answers_refusal (Refused q) e refl
+  answers_shut q e = answers_refusal (Err q) e refl
 
-  pub answers_short : (r : Answer) {places : List ℕ} → g ≡ gives places → length out < length places
+  pub answers_short : (r : Result ℕ Refusal) {places : List ℕ} → g ≡ gives places → length out < length places
       → paper_answer r ≡ refused_with (refusal_at 8 w 0) → Answers w g out r out
   unfolding told output
   answers_short r {places} e h p =
@@ -54,7 +53,7 @@ module _ (w : ℕ) (g : Given) (out : List ℕ) where
       record { answered = p ∙ rw (e, short); filled = rw (e, short) }
 
   pub answers_filled : {places after : List ℕ} {n : ℕ} → g ≡ gives places → length places ≤ length out → n ≡ length places
-      → after ≡ places ++ drop (length places) out → Answers w g out (Filled n) after
+      → after ≡ places ++ drop (length places) out → Answers w g out (Ok n) after
   unfolding told output paper_answer
   answers_filled {places} e h p q =
       let room = le-ltb (length out) (length places) h in

@@ -2,19 +2,20 @@
 use Prim.Native.Nat.{ℕ}
 use mathlib.Core.Path.{◌≡◌, sym, ◌∙◌}
 use mathlib.Core.List.{List}
+use Rattle.std.specs.Prelude.{Result}
+use Rattle.answers.specs.declared.Refusal.{Refusal}
 use Rattle.answers.proofs.Inverses.{answer_tells}
-use Rattle.answers.specs.declared.Answer.{Answer}
 use Rattle.layout.specs.Answers.{Given}
 use Rattle.layout.specs.Promises.{Answers, BookRead, BookWritten, CertificateRead, CertificateWritten}
 
 -- ---- the four operations
 
-answers_once : {w : ℕ} {g : Given} {before : List ℕ} {r s : Answer} {after other : List ℕ}
+answers_once : {w : ℕ} {g : Given} {before : List ℕ} {r s : Result ℕ Refusal} {after other : List ℕ}
     → Answers w g before r after → Answers w g before s other → (r ≡ s) × (after ≡ other)
 answers_once {w} {g} {before} {r} {s} h k =
     (answer_tells r s (h.answered ∙ sym k.answered), h.filled ∙ sym k.filled)
 
-module _ {before : List ℕ} {r s : Answer} {after other : List ℕ} where
+module _ {before : List ℕ} {r s : Result ℕ Refusal} {after other : List ℕ} where
   pub book_read_once : {book : List ℕ} → BookRead book before r after → BookRead book before s other → (r ≡ s) × (after ≡ other)
   book_read_once h k = answers_once h.answers k.answers
 

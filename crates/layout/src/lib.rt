@@ -111,19 +111,19 @@ pub fn read_book(book: &[u8], out: &mut [u16]) -> Answer
     ensures { BookRead book.now out.old result out.new }
 {
     if book.len() > 16384 {
-        return Answer::Refused(answers::whole(2, W::Book));
+        return Err(answers::whole(2, W::Book));
     }
     let mut counts = [0u8; 256];
     match open_book(book, &mut counts) {
-        Opening::Shut(r) => Answer::Refused(r),
+        Opening::Shut(r) => Err(r),
         Opening::Open { fields: n, .. } => {
             if n > out.len() {
-                return Answer::Refused(answers::whole(8, W::Book));
+                return Err(answers::whole(8, W::Book));
             }
             let none = [0u16; 0];
             let mut bytes = [0u8; 0];
             let _again = books::book(false, book, &none, out, &mut bytes, &mut counts);
-            Answer::Filled(n)
+            Ok(n)
         }
     }
 }
@@ -138,17 +138,17 @@ pub fn write_book(fields: &[u16], out: &mut [u8]) -> Answer
     let mut counts = [0u8; 0];
     let w = books::book(true, &none, fields, &mut words, &mut bytes, &mut counts);
     match opened_list(fields, W::Book, w) {
-        Opening::Shut(r) => Answer::Refused(r),
+        Opening::Shut(r) => Err(r),
         Opening::Open { bits: k, .. } => {
             let n = bytes_for(k);
             if n > 16384 {
-                return Answer::Refused(answers::whole(2, W::Book));
+                return Err(answers::whole(2, W::Book));
             }
             if n > out.len() {
-                return Answer::Refused(answers::whole(8, W::Book));
+                return Err(answers::whole(8, W::Book));
             }
             let _again = books::book(true, &none, fields, &mut words, out, &mut counts);
-            Answer::Filled(n)
+            Ok(n)
         }
     }
 }
@@ -171,15 +171,15 @@ fn list_certificate(book: &[u8], counts: &[u8], s: &[u8], out: &mut [u16]) -> An
     ensures { Answers certificate_place (listing_beside book.now s.now) out.old result out.new }
 {
     match open_certificate(book, counts, s) {
-        Opening::Shut(r) => Answer::Refused(r),
+        Opening::Shut(r) => Err(r),
         Opening::Open { fields: n, .. } => {
             if n > out.len() {
-                return Answer::Refused(answers::whole(8, W::Certificate));
+                return Err(answers::whole(8, W::Certificate));
             }
             let none = [0u16; 0];
             let mut bytes = [0u8; 0];
             let _again = certificates::certificate(false, book, counts, s, &none, out, &mut bytes);
-            Answer::Filled(n)
+            Ok(n)
         }
     }
 }
@@ -189,14 +189,14 @@ pub fn read_certificate(book: &[u8], certificate: &[u8], out: &mut [u16]) -> Ans
     ensures { CertificateRead book.now certificate.now out.old result out.new }
 {
     if book.len() > 16384 {
-        return Answer::Refused(answers::whole(2, W::Book));
+        return Err(answers::whole(2, W::Book));
     }
     if certificate.len() > 32768 {
-        return Answer::Refused(answers::whole(2, W::Certificate));
+        return Err(answers::whole(2, W::Certificate));
     }
     let mut counts = [0u8; 256];
     match open_book(book, &mut counts) {
-        Opening::Shut(r) => Answer::Refused(r),
+        Opening::Shut(r) => Err(r),
         Opening::Open { value: m, .. } => list_certificate(book, &counts[..m], certificate, out),
     }
 }
@@ -211,19 +211,19 @@ fn pack_certificate(book: &[u8], counts: &[u8], fields: &[u16], out: &mut [u8]) 
     let mut bytes = [0u8; 0];
     let w = certificates::certificate(true, book, counts, &none, fields, &mut words, &mut bytes);
     match opened_list(fields, W::Certificate, w) {
-        Opening::Shut(r) => Answer::Refused(r),
+        Opening::Shut(r) => Err(r),
         Opening::Open { bits: k, .. } => {
             let n = bytes_for(k);
             if n > 32768 {
-                return Answer::Refused(answers::whole(2, W::Certificate));
+                return Err(answers::whole(2, W::Certificate));
             }
             if n > out.len() {
-                return Answer::Refused(answers::whole(8, W::Certificate));
+                return Err(answers::whole(8, W::Certificate));
             }
             let _again = certificates::certificate(
                 true, book, counts, &none, fields, &mut words, out,
             );
-            Answer::Filled(n)
+            Ok(n)
         }
     }
 }
@@ -233,11 +233,11 @@ pub fn write_certificate(book: &[u8], fields: &[u16], out: &mut [u8]) -> Answer
     ensures { CertificateWritten book.now fields.now out.old result out.new }
 {
     if book.len() > 16384 {
-        return Answer::Refused(answers::whole(2, W::Book));
+        return Err(answers::whole(2, W::Book));
     }
     let mut counts = [0u8; 256];
     match open_book(book, &mut counts) {
-        Opening::Shut(r) => Answer::Refused(r),
+        Opening::Shut(r) => Err(r),
         Opening::Open { value: m, .. } => pack_certificate(book, &counts[..m], fields, out),
     }
 }

@@ -1,5 +1,5 @@
 -- The lines of a certificate, one over the claims of those before it, and the whole.
-use Rattle.std.proofs.Common.{Ok, Err}
+use Rattle.std.proofs.Common.{Result, Ok, Err}
 use Prim.Native.Nat.{ℕ, ◌+◌, ◌-◌, ◌≤◌}
 use mathlib.Core.Path.{◌≡◌, refl, sym, subst, ap, ◌∙◌}
 use mathlib.Core.Logic.{◌≢◌}
@@ -18,7 +18,8 @@ use Rattle.grammar.specs.Listing.{line_fields, closing_fields, certificate_field
 use Rattle.grammar.specs.Limits.{LinesFit, ClosingFits, call_counts}
 use Rattle.table.specs.Places.{LEFTS, RIGHTS, EMPTY}
 use Rattle.verdicts.proofs.Parted.{parted_line}
-use Rattle.answers.specs.declared.Verdict.{Verdict}
+use Rattle.answers.specs.declared.Acceptance.{Acceptance}
+use Rattle.answers.specs.declared.Refusal.{Refusal}
 use Rattle.instances.specs.declared.Read.{Read}
 use Rattle.comparing.specs.declared.Fault.{Fault}
 use Rattle.instances.specs.Lying.{Lies}
@@ -41,7 +42,7 @@ use Rattle.comparing.specs.Found.{Found}
 never_both : {n : Reason} {line : ℕ} {pace : Pace} → ◌≡◌ {A = Ruling Pace} (refuse n) (accept line pace) → ⊥
 never_both e = let z : ◌≡◌ {A = ℕ} 0 1 = cc in omega arith
 
-pub lines_none : {book cert w after : List ℕ} {at k n : ℕ} {r : Verdict} → n ≡ 0 → ClosingAt book cert at w after r → LinesAt book cert at k n w after r
+pub lines_none : {book cert w after : List ℕ} {at k n : ℕ} {r : Result Acceptance Refusal} → n ≡ 0 → ClosingAt book cert at w after r → LinesAt book cert at k n w after r
 unfolding flat_map checks_from
 lines_none {book} {cert} {w} {after} {at} {k} {n} {r} z p = record { told = go; size = p.below.size }
   where
@@ -55,7 +56,7 @@ lines_none {book} {cert} {w} {after} {at} {k} {n} {r} z p = record { told = go; 
     go ars B es known len (l ∷ ls) c e fits cf lies = absurd (omega arith)
 
 module _ {book cert w v : List ℕ} {at k n : ℕ} {f : Found} (ne : n ≢ 0) (small : k + n ≤ 255) (first : LineAt book cert at k w v f) where
-  pub lines_fault : {d : Fault} {r : Verdict} → f ≡ Err d → paper_verdict r ≡ refuse (carried d.number line_place k d.part) → LinesAt book cert at k n w v r
+  pub lines_fault : {d : Fault} {r : Result Acceptance Refusal} → f ≡ Err d → paper_verdict r ≡ refuse (carried d.number line_place k d.part) → LinesAt book cert at k n w v r
   unfolding flat_map checks_from LinesFit
   lines_fault {d} {r} q e = record { told = go; size = first.size }
     where
@@ -74,7 +75,7 @@ module _ {book cert w v : List ℕ} {at k n : ℕ} {f : Found} (ne : n ≢ 0) (s
             known = λ line pace a. absurd (never_both (sym e ∙ a));
           }
 
-  pub lines_on : {x : ℕ} {after : List ℕ} {r : Verdict} → f ≡ Ok x → LinesAt book cert x (k + 1) (n - 1) v after r → LinesAt book cert at k n w after r
+  pub lines_on : {x : ℕ} {after : List ℕ} {r : Result Acceptance Refusal} → f ≡ Ok x → LinesAt book cert x (k + 1) (n - 1) v after r → LinesAt book cert at k n w after r
   unfolding flat_map checks_from LinesFit
   lines_on {x} {after} {r} q rest = record { told = go; size = rest.size ∙ first.size }
     where
@@ -116,7 +117,7 @@ prepares {book} {w} {v} {after} f i = record {
     no_claim : {cert ars : List ℕ} (k : ℕ) (c : Claim Exp) → ◌≡◌ {A = Option (Claim Exp)} none (some c) → ClaimAt cert ars (get_or after (LEFTS + k) 0) (get_or after (RIGHTS + k) 0) c
     no_claim k c e = let z : ◌≡◌ {A = ℕ} 0 1 = cc in absurd (omega arith)
 
-pub judges_lines : {book cert w v after : List ℕ} {c : Read} {r : Verdict} → Prepares book w v → Takes cert 8 0 c → LinesAt book cert c.at 0 c.value v after r
+pub judges_lines : {book cert w v after : List ℕ} {c : Read} {r : Result Acceptance Refusal} → Prepares book w v → Takes cert 8 0 c → LinesAt book cert c.at 0 c.value v after r
     → JudgesLines book cert w after r
 unfolding certificate_fields judge checks
 judges_lines {book} {cert} {w} {v} {after} {c} p t l = record {

@@ -1,5 +1,5 @@
 -- Both parts of a closing, and its verdict.
-use Rattle.std.proofs.Common.{Ok, Err}
+use Rattle.std.proofs.Common.{Result, Ok, Err}
 use Prim.Native.Nat.{ℕ, ◌+◌}
 use mathlib.Core.Path.{◌≡◌, refl, sym, subst, ap, ◌∙◌}
 use mathlib.Core.List.{List, [], ◌∷◌}
@@ -18,7 +18,8 @@ use Rattle.patterns.specs.Demand.{Met, present}
 use Rattle.patterns.specs.Judge.{check, compare, loop_checks, closing_checks, accept, refuse}
 use Rattle.grammar.specs.Listing.{closing_fields}
 use Rattle.verdicts.proofs.Parted.{parted_closing}
-use Rattle.answers.specs.declared.Verdict.{Verdict}
+use Rattle.answers.specs.declared.Acceptance.{Acceptance}
+use Rattle.answers.specs.declared.Refusal.{Refusal}
 use Rattle.instances.specs.declared.Read.{Read}
 use Rattle.comparing.specs.declared.Fault.{Fault}
 use Rattle.comparing.specs.declared.Whole.TheVariants.{Closing as AtClosing}
@@ -99,7 +100,7 @@ module _ {book cert w v : List ℕ} {left right : ℕ} {r : Found} (first : Chec
     }
 
 module _ {book cert w v : List ℕ} {line k α : ℕ} {f : Found} (found : ClosingFound book cert line k α w v f) where
-  pub closing_fault : {d : Fault} {r : Verdict} → f ≡ Err d → paper_verdict r ≡ refuse (carried d.number closing_place line d.part) → ClosingBy book cert line k α w v r
+  pub closing_fault : {d : Fault} {r : Result Acceptance Refusal} → f ≡ Err d → paper_verdict r ≡ refuse (carried d.number closing_place line d.part) → ClosingBy book cert line k α w v r
   closing_fault {d} q e = record {
     told = λ ars B es known c i pc filled small.
         let first = at_fault (found.told ars B es known c i pc filled small).1 q in
@@ -109,7 +110,7 @@ module _ {book cert w v : List ℕ} {line k α : ℕ} {f : Found} (found : Closi
     below = found.below;
   }
 
-  pub closing_good : {x : ℕ} {r : Verdict} → f ≡ Ok x → paper_verdict r ≡ accept line (pace_of k α) → ClosingBy book cert line k α w v r
+  pub closing_good : {x : ℕ} {r : Result Acceptance Refusal} → f ≡ Ok x → paper_verdict r ≡ accept line (pace_of k α) → ClosingBy book cert line k α w v r
   closing_good q e = record {
     told = λ ars B es known d i p filled small.
         e ∙ ap (λ a. accept a (pace_of k α)) (sym i) ∙ ap (accept d.line) (sym p)
@@ -117,7 +118,7 @@ module _ {book cert w v : List ℕ} {line k α : ℕ} {f : Found} (found : Closi
     below = found.below;
   }
 
-pub closing_at : {book cert w v after : List ℕ} {at end : ℕ} {c d e : Read} {r : Verdict} → Takes cert 8 at c → Takes cert 12 c.at d → Takes cert 12 d.at e
+pub closing_at : {book cert w v after : List ℕ} {at end : ℕ} {c d e : Read} {r : Result Acceptance Refusal} → Takes cert 8 at c → Takes cert 12 c.at d → Takes cert 12 d.at e
     → Lists book cert USED e.at w v end → ClosingBy book cert c.value d.value e.value v after r → ClosingAt book cert at w after r
 unfolding closing_fields
 closing_at {book} {cert} {w} {v} {after} {at} {end} {c} {d} {e} tc td te f p = record {

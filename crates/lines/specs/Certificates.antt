@@ -1,5 +1,5 @@
 -- What the judging of a line leaves in the table, the verdict on a closing and on all lines, and what an accepted certificate leaves there.
-use Rattle.std.specs.Prelude.{ℕ, ◌+◌, ◌<◌, ◌≡◌, length, get_or}
+use Rattle.std.specs.Prelude.{ℕ, ◌+◌, ◌<◌, ◌≡◌, length, get_or, Result}
 use mathlib.Core.List.{List, [], ◌∷◌, ◌++◌, map, flat_map}
 use Rattle.answers.specs.Numbers.{paper_verdict}
 use Rattle.bits.specs.Packed.{width}
@@ -12,7 +12,8 @@ use Rattle.grammar.specs.Books.{RuleBook}
 use Rattle.grammar.specs.Listing.{line_fields, kind_fields, kind_number, closing_fields, certificate_fields, book_fields}
 use Rattle.grammar.specs.Limits.{ClaimFits, KindFits, LinesFit, ClosingFits, call_counts, BookFits, CertificateFits}
 use Rattle.table.specs.Places.{LEFTS, RIGHTS, OWN, USED, FIRST}
-use Rattle.answers.specs.declared.Verdict.{Verdict}
+use Rattle.answers.specs.declared.Acceptance.{Acceptance}
+use Rattle.answers.specs.declared.Refusal.{Refusal}
 use Rattle.instances.specs.Lying.{Lies, KnownArities}
 use Rattle.instances.specs.Fillings.{FillsTold}
 use Rattle.begins.specs.Placed.{RightAt, LeftAt}
@@ -52,26 +53,26 @@ pub record ClosingFound (book cert : List ℕ) (line k α : ℕ) (w after : List
   pub below : Below FIRST w after
 
 -- and its verdict
-pub record ClosingBy (book cert : List ℕ) (line k α : ℕ) (w after : List ℕ) (r : Verdict) : Type 0 where
+pub record ClosingBy (book cert : List ℕ) (line k α : ℕ) (w after : List ℕ) (r : Result Acceptance Refusal) : Type 0 where
   pub told : (ars : List ℕ) (B : Book Exp) (es : List (Claim Exp)) → Known book cert w ars B es
       → (c : Closing Exp Pace) → c.line ≡ line → c.pace ≡ pace_of k α → FillsTold book cert w USED (by c.fills) → c.line < length es
       → paper_verdict r ≡ ruling one (first_unmet one (map (place one closing_place c.line) (closing_checks one es c))) c
   pub below : Below FIRST w after
 
 -- of a closing that lies at a bit
-pub record ClosingAt (book cert : List ℕ) (at : ℕ) (w after : List ℕ) (r : Verdict) : Type 0 where
+pub record ClosingAt (book cert : List ℕ) (at : ℕ) (w after : List ℕ) (r : Result Acceptance Refusal) : Type 0 where
   pub told : (ars : List ℕ) (B : Book Exp) (es : List (Claim Exp)) → Known book cert w ars B es
       → (c : Closing Exp Pace) → ClosingFits ars (length es) c → Lies cert at (closing_fields c)
       → paper_verdict r ≡ ruling one (first_unmet one (map (place one closing_place c.line) (closing_checks one es c))) c
   pub below : Below USED w after
 
 -- the verdict that is due. Where it accepts, the table still tells where the rules and the claims of all lines lie
-pub record Ruled (book cert after ars : List ℕ) (B : Book Exp) (es : List (Claim Exp)) (due : Ruling Pace) (r : Verdict) : Type 0 where
+pub record Ruled (book cert after ars : List ℕ) (B : Book Exp) (es : List (Claim Exp)) (due : Ruling Pace) (r : Result Acceptance Refusal) : Type 0 where
   pub is : paper_verdict r ≡ due
   pub known : (line : ℕ) (pace : Pace) → paper_verdict r ≡ accept line pace → Known book cert after ars B es
 
 -- the verdict on the n lines from number k on, and the closing
-pub record LinesAt (book cert : List ℕ) (at k n : ℕ) (w after : List ℕ) (r : Verdict) : Type 0 where
+pub record LinesAt (book cert : List ℕ) (at k n : ℕ) (w after : List ℕ) (r : Result Acceptance Refusal) : Type 0 where
   pub told : (ars : List ℕ) (B : Book Exp) (es : List (Claim Exp)) → Known book cert w ars B es → length es ≡ k
       → (ls : List (Line Exp Pair)) (c : Closing Exp Pace) → length ls ≡ n → LinesFit ars (call_counts B) k ls → ClosingFits ars (k + n) c
       → Lies cert at (flat_map line_fields ls ++ closing_fields c)
@@ -85,7 +86,7 @@ pub record Prepares (book w after : List ℕ) : Type 0 where
   pub size : length after ≡ length w
 
 -- the whole: the verdict of the judge over trees
-pub record JudgesLines (book cert w after : List ℕ) (r : Verdict) : Type 0 where
+pub record JudgesLines (book cert w after : List ℕ) (r : Result Acceptance Refusal) : Type 0 where
   pub told : (b : RuleBook) → KnownArities book b.arities → BookFits b → Lies book 0 (book_fields b)
       → (K : Certificate Exp Pair Pace) → CertificateFits b K → Lies cert 0 (certificate_fields K)
       → Ruled book cert after b.arities b.rules (map claim_of K.lines) (judge one b.rules K) r

@@ -2,13 +2,13 @@
 #![tactic(auto)]
 
 ghost use Rattle.std.specs.Prelude.{◌≡◌, ◌+◌, ◌≤◌, ◌<◌, length};
-ghost use Rattle.answers.specs.Numbers.{paper_verdict};
-ghost use Rattle.patterns.specs.Judge.{accept};
+ghost use Rattle.answers.specs.Numbers.{w_of, paper_refusal};
+ghost use Rattle.answers.specs.Carried.{carried};
 ghost use Rattle.table.specs.Places.{WORDS, ROWS};
-ghost use Rattle.lines.specs.Certificates.{pace_of, NotesLine, KindAt, LineAt, ClosingFound, ClosingBy, ClosingAt, LinesAt, Prepares, JudgesLines};
+ghost use Rattle.lines.specs.Certificates.{NotesLine, KindAt, LineAt, ClosingFound, ClosingBy, ClosingAt, LinesAt, Prepares, JudgesLines};
 
-use answers::{Acceptance, Verdict, W};
-use comparing::{Behind, Filled, Found, Subject, Whole};
+use answers::{Acceptance, Refusal, Verdict, W};
+use comparing::{Behind, Fault, Filled, Found, Subject, Whole};
 use table::{EMPTY, LEFTS, RIGHTS, USED};
 
 // Where both sides of line k lie, noted.
@@ -50,6 +50,13 @@ fn line(book: &[u8], certificate: &[u8], w: &mut [u64], at: usize, k: usize) -> 
     let rest = begins::pass_right(book, certificate, right);
     note_line(w, k, left, right);
     behind_claim(book, certificate, w, tag.value, left, right, rest)
+}
+
+// The refusal of a line or a closing by the first of its checks that is not met.
+fn refused(fault: Fault, w: W, line: usize) -> Refusal
+    ensures { paper_refusal result ≡ carried fault.number (w_of w) line fault.part }
+{
+    answers::carried(fault.number, w, line, fault.part)
 }
 
 // Both parts of the closing, its filling indexed.
@@ -110,20 +117,9 @@ fn closing_by(
     requires { (WORDS ≤ length w.old) × (line < ROWS) × (k < 4096) × (alpha < 4096) }
     ensures { ClosingBy book.now certificate.now line k alpha w.old w.new result }
 {
-    match closing_parts(book, certificate, w, line, k, alpha) {
-        Err(fault) => {
-            let refusal = answers::carried(fault.number, W::Closing, line, fault.part);
-            Verdict::Refused(refusal)
-        }
-        Ok(_) => accepted(line, k, alpha),
-    }
-}
-
-// The closing's own numbers.
-fn accepted(line: usize, k: u16, alpha: u16) -> Verdict
-    ensures { paper_verdict result ≡ accept line (pace_of k alpha) }
-{
-    Verdict::Accepted(Acceptance {
+    let found = closing_parts(book, certificate, w, line, k, alpha);
+    found.map_err(|fault| refused(fault, W::Closing, line))?;
+    Ok(Acceptance {
         line,
         k: k as usize,
         alpha: alpha as usize,
@@ -150,15 +146,8 @@ fn lines(book: &[u8], certificate: &[u8], w: &mut [u64], at: usize, k: usize, n:
 {
     let mut next = at;
     for number in k..k + n {
-        match line(book, certificate, w, next, number) {
-            Err(fault) => {
-                let refusal = answers::carried(fault.number, W::Line, number, fault.part);
-                return Verdict::Refused(refusal);
-            }
-            Ok(end) => {
-                next = end;
-            }
-        }
+        let found = line(book, certificate, w, next, number);
+        next = found.map_err(|fault| refused(fault, W::Line, number))?;
     }
     closing(book, certificate, w, next)
 }

@@ -6,6 +6,7 @@ use mathlib.Core.Bool.{Bool, true, false, cond}
 use native.Mathlib.Omega.{arith}
 use lib.ListN.{length}
 use lib.Dec.{ltb}
+use Rattle.std.specs.Prelude.{Result, Err}
 use Rattle.table.specs.Places.{WORDS}
 use Rattle.answers.specs.Numbers.{paper_refusal, paper_answer}
 use Rattle.patterns.specs.Certificate.{Certificate}
@@ -14,8 +15,6 @@ use Rattle.patterns.specs.Judge.{Ruling, refuse, judge}
 use Rattle.patterns.specs.First.{Exp, Pair, Pace, one}
 use Rattle.patterns.proofs.Judged.{refuses_exactly}
 use Rattle.grammar.specs.Books.{RuleBook}
-use Rattle.answers.specs.declared.Answer.{Answer}
-use Rattle.answers.specs.declared.Answer.TheVariants.{Refused}
 use Rattle.answers.specs.declared.Refusal.{Refusal}
 use Rattle.layout.specs.Files.{where_good, Opened, good, bad, open_book, open_certificate}
 use Rattle.layout.specs.Answers.{Given}
@@ -84,13 +83,13 @@ judging_input_in_table input size =
 
 -- ---- the four operations, over their own answers
 
-answers_in_table : {w : ℕ} {g : Given} {before : List ℕ} {r : Answer} {after : List ℕ} → (file : w ≤ 1) → GivenInTable g
-    → Answers w g before r after → (f : Refusal) → r ≡ Refused f → InTable (paper_refusal f)
+answers_in_table : {w : ℕ} {g : Given} {before : List ℕ} {r : Result ℕ Refusal} {after : List ℕ} → (file : w ≤ 1) → GivenInTable g
+    → Answers w g before r after → (f : Refusal) → r ≡ Err f → InTable (paper_refusal f)
 unfolding paper_answer
 answers_in_table {w} {g} {before} file h a f e =
     told_in_table w file g (length before) h (paper_refusal f) (sym a.answered ∙ ap paper_answer e)
 
-module _ {before : List ℕ} {r : Answer} {after : List ℕ} (f : Refusal) (e : r ≡ Refused f) where
+module _ {before : List ℕ} {r : Result ℕ Refusal} {after : List ℕ} (f : Refusal) (e : r ≡ Err f) where
   pub read_book_in_table : {book : List ℕ} → BookRead book before r after → InTable (paper_refusal f)
   read_book_in_table {book} h = answers_in_table (omega arith) (reading_book_in_table book) h.answers f e
 

@@ -3,6 +3,9 @@ use Prim.Native.Nat.{ℕ, ◌<◌}
 use mathlib.Core.Path.{◌≡◌, refl, ap, sym, ◌∙◌}
 use mathlib.Core.List.{List, [], ◌∷◌, ◌++◌, append_assoc}
 use native.Mathlib.Omega.{arith}
+use Rattle.std.specs.Prelude.{Result}
+use Rattle.answers.specs.declared.Acceptance.{Acceptance}
+use Rattle.answers.specs.declared.Refusal.{Refusal}
 use Rattle.answers.specs.Carried.{Carries}
 use Rattle.answers.specs.Numbers.{paper_verdict}
 use Rattle.answers.proofs.Inverses.{verdict_tells}
@@ -10,7 +13,6 @@ use Rattle.patterns.specs.Every.{Every}
 use Rattle.patterns.specs.First.{Pace}
 use Rattle.patterns.specs.Reason.{Reason}
 use Rattle.patterns.specs.Judge.{Ruling, accept, refuse}
-use Rattle.answers.specs.declared.Verdict.{Verdict}
 use Rattle.verdicts.specs.Decimal.{decimal}
 use Rattle.verdicts.specs.Printing.{accept_word, refuse_word, spaced, sentence, refusal_line, line_of, TellsAll}
 use Rattle.verdicts.proofs.Decimal.{IsDigit, decimal_digits, decimal_tells}
@@ -89,5 +91,5 @@ line_tells (refuse r) (accept m q) h k e = let z : ◌≡◌ {A = ℕ} 114 97 = 
 line_tells (refuse r) (refuse t) h k e = ap refuse (sym h ∙ refusals_tell _ _ e ∙ k)
 
 -- So what the program prints tells the code's verdict.
-pub printed_tells : (p q : Verdict) → TellsAll (paper_verdict p) → TellsAll (paper_verdict q) → line_of (paper_verdict p) ≡ line_of (paper_verdict q) → p ≡ q
+pub printed_tells : (p q : Result Acceptance Refusal) → TellsAll (paper_verdict p) → TellsAll (paper_verdict q) → line_of (paper_verdict p) ≡ line_of (paper_verdict q) → p ≡ q
 printed_tells p q h k e = verdict_tells p q (line_tells (paper_verdict p) (paper_verdict q) h k e)

@@ -6,6 +6,7 @@ use native.Mathlib.Omega.{arith}
 use borrow.Author.Tests.{le-ltb}
 use lib.ListN.{length, take, drop}
 use lib.Seq.{take-append_seam}
+use Rattle.std.specs.Prelude.{Result, Ok, Err}
 use Rattle.answers.specs.Carried.{carried}
 use Rattle.answers.specs.Numbers.{w_of, paper_refusal, paper_pace, paper_verdict}
 use Rattle.patterns.specs.Reason.{Reason}
@@ -14,16 +15,14 @@ use Rattle.layout.specs.Answers.{output}
 use Rattle.answers.specs.declared.Refusal.{Refusal}
 use Rattle.answers.proofs.Carrying.{carried_field, carried_part, carried_low, carried_between, carried_high}
 use Rattle.answers.specs.declared.Acceptance.{Acceptance}
-use Rattle.answers.specs.declared.Verdict.{Verdict}
-use Rattle.answers.specs.declared.Verdict.TheVariants.{Accepted, Refused}
 use Rattle.verdicts.specs.Printing.{accept_word, refuse_word, sentence, refusal_line, line_of, written_length, Prints}
 
 -- ---- an acceptance
 
-pub accepted_printed : (out : List ℕ) {out' : List ℕ} {r : ℕ} {v : Verdict} (a : Acceptance) → v ≡ Accepted a
+pub accepted_printed : (out : List ℕ) {out' : List ℕ} {r : ℕ} {v : Result Acceptance Refusal} (a : Acceptance) → v ≡ Ok a
     → Prints (sentence accept_word (a.line ∷ a.k ∷ a.alpha ∷ [])) out r out' → Prints (line_of (paper_verdict v)) out r out'
 unfolding paper_verdict paper_pace line_of
-accepted_printed out {out'} {r} a e p = subst (λ (v : Verdict). Prints (line_of (paper_verdict v)) out r out') (sym e) p
+accepted_printed out {out'} {r} a e p = subst (λ (v : Result Acceptance Refusal). Prints (line_of (paper_verdict v)) out r out') (sym e) p
 
 -- ---- a refusal, by its number
 
@@ -56,10 +55,10 @@ module _ (out : List ℕ) {out' : List ℕ} {r : ℕ} (f : Refusal) {w : ℕ} (p
       → Prints (line_of (refuse (paper_refusal f))) out r out'
   high_printed p = carried_printed 0 0 (carried_high _ _ _ p)
 
-pub refused_printed : (out : List ℕ) {out' : List ℕ} {r : ℕ} {v : Verdict} (f : Refusal) → v ≡ Refused f
+pub refused_printed : (out : List ℕ) {out' : List ℕ} {r : ℕ} {v : Result Acceptance Refusal} (f : Refusal) → v ≡ Err f
     → Prints (line_of (refuse (paper_refusal f))) out r out' → Prints (line_of (paper_verdict v)) out r out'
 unfolding paper_verdict
-refused_printed out {out'} {r} f e p = subst (λ (v : Verdict). Prints (line_of (paper_verdict v)) out r out') (sym e) p
+refused_printed out {out'} {r} f e p = subst (λ (v : Result Acceptance Refusal). Prints (line_of (paper_verdict v)) out r out') (sym e) p
 
 -- ---- what a caller with 91 bytes gets
 

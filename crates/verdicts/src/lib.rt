@@ -133,10 +133,10 @@ pub fn verdict_line(v: Verdict, out: &mut [u8]) -> usize
     ensures { Prints (line_of (paper_verdict v)) out.old result out.new }
 {
     match v {
-        Verdict::Accepted(a) => {
+        Ok(a) => {
             let numbers = [a.line, a.k, a.alpha];
             put_sentence(b"accept", &numbers, out)
         }
-        Verdict::Refused(refusal) => refusal_line(refusal, out),
+        Err(refusal) => refusal_line(refusal, out),
     }
 }

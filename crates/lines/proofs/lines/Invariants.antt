@@ -4,4 +4,4 @@ use Rattle.lines.proofs.Going.{Goes}
 use Rattle.lines.proofs.lines.Given as goal
 
 abbrev pub invariant-loop-number : goal.invariant-loop-number
-invariant-loop-number l = Goes l.book l.certificate l.at l.k l.n l.initial.w l.next l.number (l.k + l.n - l.number) l.w
+invariant-loop-number l = Goes l.book l.certificate l.at l.k l.n l.initial.w l.next l.number-counter (l.k + l.n - l.number-counter) l.w

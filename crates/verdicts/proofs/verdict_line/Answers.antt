@@ -3,9 +3,9 @@ use Rattle.verdicts.specs.Printing.{accept_word}
 use Rattle.verdicts.proofs.Printed.{accepted_printed, refused_printed}
 use Rattle.verdicts.proofs.verdict_line.Goals as goal
 
-pub returns-in-Accepted : goal.returns-in-Accepted
+pub returns-in-Ok : goal.returns-in-Ok
 unfolding accept_word
-returns-in-Accepted c = accepted_printed _ _ c.in-Accepted.is c.put_sentence.ensures
+returns-in-Ok c = accepted_printed _ _ c.in-Ok.is c.put_sentence.ensures
 
-pub returns-in-Refused : goal.returns-in-Refused
-returns-in-Refused c = refused_printed _ _ c.in-Refused.is c.refusal_line.ensures
+pub returns-in-Err : goal.returns-in-Err
+returns-in-Err c = refused_printed _ _ c.in-Err.is c.refusal_line.ensures
