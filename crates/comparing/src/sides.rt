@@ -5,7 +5,7 @@ ghost use Rattle.table.specs.Sides.{Room};
 ghost use Rattle.comparing.specs.Subjects.{fills_of, Sided, AmountsEmpty, Seconded, Compares};
 ghost use Rattle.comparing.specs.Asked.{Equals};
 
-use crate::{Compared, Filled, Found, Subject};
+use crate::{Compared, Fault, Filled, Found, Subject};
 use instances::{Side, second};
 use table::{EMPTY, FIRST, OWN, Outcome, USED};
 
@@ -114,8 +114,8 @@ pub fn equal(
     ensures { Equals book.now certificate.now number part a b w.old w.new result }
 {
     match compare(book, certificate, w, a, b) {
-        Compared::TooBig => Found::Fault { number: 16, part },
-        Compared::Unequal => Found::Fault { number, part },
-        Compared::Equal(end) => Found::Good(end),
+        Compared::TooBig => Err(Fault { number: 16, part }),
+        Compared::Unequal => Err(Fault { number, part }),
+        Compared::Equal(end) => Ok(end),
     }
 }
