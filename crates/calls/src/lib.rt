@@ -7,7 +7,7 @@ ghost use Rattle.table.specs.Places.{WORDS, NODES, FIRST};
 ghost use Rattle.table.specs.Nodes.{node_at, side};
 ghost use Rattle.table.specs.Answer.{Says};
 ghost use Rattle.covering.specs.Left.{under, below};
-ghost use Rattle.covering.specs.Search.{larger, largest};
+ghost use Rattle.covering.specs.Search.{largest};
 ghost use Rattle.calls.specs.Standing.{less, lessened, counted_node, nodes_from, left_at, Spans};
 ghost use Rattle.calls.specs.Moving.{Follows, Passes, NotesEnds, Term, SameTerms, Behind, Goes};
 
