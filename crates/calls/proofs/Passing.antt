@@ -6,18 +6,18 @@ use mathlib.Core.List.{List, [], ◌∷◌}
 use native.Mathlib.Decide.{ℕ_discrete}
 use native.Mathlib.Nat.{zero-add}
 use native.Mathlib.Omega.{arith}
-use lib.ListN.{length, get_or, set, length-set}
+use lib.ListN.{get_or, set, length-set}
 use lib.Seq.{get_or-set_same, get_or-set_other}
 use Rattle.patterns.specs.Term.{Node}
 use Rattle.patterns.specs.First.{Exp}
 use Rattle.covering.specs.Left.{Left, places, behind}
-use Rattle.table.specs.Places.{WORDS, NODES, FIRST, ENDS}
+use Rattle.table.specs.Places.{NODES, FIRST, ENDS}
 use Rattle.table.specs.Nodes.{node_at}
 use Rattle.table.specs.Sides.{Kept}
-use Rattle.table.proofs.Writes.{kept_self, kept_then}
+use Rattle.table.proofs.Writes.{kept_then}
 use Rattle.table.proofs.Nodes.{TellsNode, is_var, is_fun, is_pow, tells}
 use Rattle.calls.specs.Standing.{counted, counted_node, rest, end_of, Spans, Ends}
-use Rattle.calls.specs.Moving.{Follows, Passes, NotesEnds}
+use Rattle.calls.specs.Moving.{Follows, Passes}
 use Rattle.calls.proofs.Standing.{rest_node, rest_end, rest_kept}
 
 -- ---- how many terms follow a node

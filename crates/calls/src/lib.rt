@@ -7,7 +7,7 @@ ghost use Rattle.table.specs.Places.{WORDS, NODES, FIRST};
 ghost use Rattle.table.specs.Nodes.{node_at, side};
 ghost use Rattle.table.specs.Answer.{Says};
 ghost use Rattle.covering.specs.Left.{under, below};
-ghost use Rattle.covering.specs.Search.{larger, largest};
+ghost use Rattle.covering.specs.Search.{largest};
 ghost use Rattle.calls.specs.Standing.{less, lessened, counted_node, nodes_from, left_at, Spans};
 ghost use Rattle.calls.specs.Moving.{Follows, Passes, NotesEnds, Term, SameTerms, Behind, Goes};
 
@@ -32,6 +32,7 @@ impl Place {
 // ---- where each term ends
 
 // The arity of a symbol, 16 where there is no such symbol.
+#[tactic(auto, using(crate::proofs::Arities::large_symbol))]
 fn arity_of(book: &[u8], f: u64) -> usize
     ensures { result ≡ arities book.now f }
 {
@@ -83,6 +84,7 @@ pub fn note_ends(book: &[u8], w: &mut [u64], k: usize)
 // ---- the largest number
 
 // The number of a node, 0 if it is no power.
+#[tactic(auto, using(crate::proofs::Numbers::largest_power, crate::proofs::Numbers::largest_other))]
 fn number_of(w: &[u64], j: usize) -> u64
     requires { (WORDS ≤ length w.now) × (j < NODES) }
     ensures { result ≡ largest (node_at w.now (FIRST + 3 * j) ∷ []) }
@@ -161,6 +163,9 @@ pub fn same_term(w: &[u64], k: usize, p: Place, q: Place) -> bool
 }
 
 // ---- the ways to go on
+
+// The table and k stay two arguments. As one struct with the invariant `Spans`, which was tried, they made the contracts longer
+// (`self.entry.w.now self.entry.k`), and `matching`, which writes into the same table, would make the struct anew for each move.
 
 // Behind the term at a place.
 pub fn behind(w: &[u64], k: usize, p: Place) -> Place

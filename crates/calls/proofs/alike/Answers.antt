@@ -1,5 +1,5 @@
 -- `calls::alike` meets its contract.
-use borrow.Author.Tests.{eq-eqb, ne_eqb}
+use borrow.Author.Tests.{ne_eqb}
 use Rattle.calls.proofs.Sameness.{alike_code, alike_plain, alike_power}
 use Rattle.calls.proofs.alike.Goals as goal
 
