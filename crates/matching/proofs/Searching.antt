@@ -29,7 +29,6 @@ use Rattle.instances.specs.Instances.{Levels, Stored, Builds}
 use Rattle.instances.specs.Listings.{Forgets}
 use Rattle.instances.specs.Walks.{Passage, walked}
 use Rattle.instances.specs.declared.Side.{Side}
-use Rattle.instances.specs.declared.Side.TheVariants.{Done, Full}
 use Rattle.instances.proofs.Walks.{walked_term}
 use Rattle.instances.proofs.Terms.{as_it_is}
 use Rattle.calls.specs.Standing.{Spans, Ends}
@@ -138,28 +137,28 @@ searched_nodes {book} {s} {k} {at} {α} {n} {w} {v} {after} {r} few N T F = reco
 own_form : (c : Pattern) → Call c → form one (fill var (reindex one (1, 0) c)) ≡ c
 own_form c C = ap (form one) (fill_var (reindex one (1, 0) c) ∙ as_it_is c) ∙ normal_is_its_own_form c C.normal
 
-module _ {book call w u v : List ℕ} {side-built : Side} (f : Forgets EMPTY w u) (b : Builds book call call FIRST 0 1 0 EMPTY u v side-built) where
+module _ {book call w u v : List ℕ} {built : Option Side} (f : Forgets EMPTY w u) (b : Builds book call call FIRST 0 1 0 EMPTY u v built) where
   unfilled : FillsTold book call u EMPTY var
   unfilled = record { each = λ x. unlisted (f.none x) }
 
-  stored : (c : Pattern) → TermAt book call 0 c → Stored FIRST (some (fill var (reindex one (1, 0) c))) (behind 0 c) v side-built
+  stored : (c : Pattern) → TermAt book call 0 c → Stored FIRST (some (fill var (reindex one (1, 0) c))) (behind 0 c) v built
   stored c h = b.told c var h unfilled
 
-  pub search_full : {cert : List ℕ} {at α : ℕ} → side-built ≡ Full → Searches book cert call at α w v None
+  pub search_full : {cert : List ℕ} {at α : ℕ} {r : Option ℕ} → built ≡ None → r ≡ None → Searches book cert call at α w v r
   unfolding Stored Built mark_nodes
-  search_full e = record {
+  search_full e none = rw none (record {
     told = λ t c T C K.
         let s : NODES < length (nodes (form one (fill var (reindex one (1, 0) c)))) = subst (Stored FIRST (some (fill var (reindex one (1, 0) c))) (behind 0 c) v) e (stored c C) in
         absurd (omega (arith, s, ap (λ d. length (nodes d)) (own_form c K), length_nodes c, C.small));
     size = b.kept.size ∙ f.kept.size;
-  }
+  })
 
-  pub search_done : {cert : List ℕ} {at α k end : ℕ} {after : List ℕ} {r : Option ℕ} → side-built ≡ Done k end → SearchesNodes book cert k at α v after r
+  pub search_done : {cert : List ℕ} {at α : ℕ} {a : Side} {after : List ℕ} {r : Option ℕ} → built ≡ Some a → SearchesNodes book cert a.nodes at α v after r
       → Searches book cert call at α w after r
   unfolding Stored Built mark_nodes
-  search_done {k = k} {end = end} e S = record {
+  search_done {a = a} e S = record {
     told = λ t c T C K.
-        let s : Stored FIRST (some (fill var (reindex one (1, 0) c))) (behind 0 c) v (Done k end) = subst (Stored FIRST (some (fill var (reindex one (1, 0) c))) (behind 0 c) v) e (stored c C) in
+        let s : Stored FIRST (some (fill var (reindex one (1, 0) c))) (behind 0 c) v (Some a) = subst (Stored FIRST (some (fill var (reindex one (1, 0) c))) (behind 0 c) v) e (stored c C) in
         S.told t c T (s.0.1 ∙ ap nodes (own_form c K)) K;
     size = S.size ∙ b.kept.size ∙ f.kept.size;
   }

@@ -20,11 +20,12 @@ use Rattle.table.proofs.Writes.{kept_then}
 use Rattle.table.proofs.Sides.{kept_wider}
 use Rattle.instances.specs.Lying.{arities}
 use Rattle.instances.specs.Listings.{Forgets}
-use Rattle.instances.specs.Walks.{single, first_stand, Passage, Ended}
+use Rattle.instances.specs.Walks.{single, Passage}
+use Rattle.instances.specs.Turns.{Begins, Turns}
 use Rattle.instances.specs.Walks.{walk as passage}
 use Rattle.instances.specs.declared.Header.{Header}
-use Rattle.instances.specs.declared.Stand.{Stand}
-use Rattle.instances.proofs.Goings.{Meets, Going, going_start, going_over, going_more, going_on}
+use Rattle.instances.specs.declared.nodes.Walk.{Walk}
+use Rattle.instances.proofs.Goings.{Going, going_start, going_over, going_more, going_on}
 use Rattle.calls.specs.Standing.{nodes_from, rest, left_at, Spans, Ends}
 use Rattle.calls.specs.Moving.{Inside}
 use Rattle.calls.specs.declared.Place.{Place}
@@ -43,8 +44,8 @@ Came book k i w₀ w place met =
     Ends (arities book) w₀ k 0 → walk (arities book) (retag (value i) met) (begin w₀ k) ≡ some (state_at (arities book) w k place)
 
 -- a walk under way: it came to a place, with the table w
-pub record Walking (book s : List ℕ) (k at i : ℕ) (w₀ w : List ℕ) (place : Place) (left : ℕ) (p : Stand) : Type 0 where
-  pub going : Going (Came book k i w₀ w place) book s at left p
+pub record Walking (book s : List ℕ) (k at i : ℕ) (w₀ w : List ℕ) (place : Place) (t : Walk) : Type 0 where
+  pub going : Going (Came book k i w₀ w place) book s at t
   pub inside : place.node ≤ k
   pub kept : Kept BOUND 128 w₀ w
 
@@ -65,17 +66,17 @@ module _ (book s : List ℕ) (k at i : ℕ) (w₀ : List ℕ) (spans : Spans w�
       (sym e)
 
   -- all bindings are forgotten first
-  pub walking_start : {w : List ℕ} → Forgets BOUND w₀ w → Walking book s k at i w₀ w start 256 (first_stand at)
+  pub walking_start : {w : List ℕ} {t : Walk} → Forgets BOUND w₀ w → Begins book s at t → Walking book s k at i w₀ w start t
   unfolding walk retag
-  walking_start {w} f =
+  walking_start {w} f b =
       let kept : Kept BOUND 128 w₀ w = kept_wider (omega arith) (omega arith) f.kept in
       record {
-        going = going_start book s at (λ E. ap (λ (z : State). some z) (begins (arities book) w kept (unbound (arities book) w k f.none)));
+        going = going_start b (λ E. ap (λ (z : State). some z) (begins (arities book) w kept (unbound (arities book) w k f.none)));
         inside = omega arith;
         kept = kept;
       }
 
-  module _ {w : List ℕ} {place : Place} {left : ℕ} {p : Stand} (g : Walking book s k at i w₀ w place left p) where
+  module _ {w : List ℕ} {place : Place} {t : Walk} (g : Walking book s k at i w₀ w place t) where
     pub walking_spans : Spans w k 0
     walking_spans = spans_kept w₀ w g.kept.size (λ n h. g.kept.low n h) spans
 
@@ -83,18 +84,18 @@ module _ (book s : List ℕ) (k at i : ℕ) (w₀ : List ℕ) (spans : Spans w�
     ends_now E = ends_kept w₀ w g.kept.size (λ n h. g.kept.low n h) spans.few E
 
     -- the pattern is over: it fits
-    pub walking_over : Ended left p.pending → FitsAt book s k at i w₀ w true
+    pub walking_over : {u : Walk} → Turns t u None → FitsAt book s k at i w₀ w true
     unfolding fits found
-    walking_over e = record {
+    walking_over n = record {
       told = λ E.
           ap found
           (sym
-          (ap (λ (v : Passage). walk (arities book) (retag (value i) v.met) (begin w₀ k)) (going_over g.going e)
+          (ap (λ (v : Passage). walk (arities book) (retag (value i) v.met) (begin w₀ k)) (going_over g.going n)
           ∙ g.going.holds E));
       kept = g.kept;
     }
 
-    module _ {h : Header} {q : Stand} (here : Meets book s left p h q) {v : List ℕ} {r : Option Place} (m : Matches k place (retag (value i) (single h)) w v r) where
+    module _ {u : Walk} {h : Header} (here : Turns t u (Some h)) {v : List ℕ} {r : Option Place} (m : Matches k place (retag (value i) (single h)) w v r) where
       -- one node more
       stepped : Ends (arities book) w₀ k 0
           → walk (arities book) (retag (value i) (g.going.met ++ single h)) (begin w₀ k) ≡ arrived (arities book) v k r
@@ -111,7 +112,7 @@ module _ (book s : List ℕ) (k at i : ℕ) (w₀ : List ℕ) (spans : Spans w�
         told = λ E.
             ap found
             (sym
-            (ap (λ (u : Passage). walk (arities book) (retag (value i) u.met) (begin w₀ k)) (going_more g.going here)
+            (ap (λ (o : Passage). walk (arities book) (retag (value i) o.met) (begin w₀ k)) (going_more g.going here)
             ∙ ap (λ ns. walk (arities book) ns (begin w₀ k)) (retag_append (value i) (g.going.met ++ single h) more)
             ∙ walk_append (arities book) (retag (value i) (g.going.met ++ single h)) (retag (value i) more) (begin w₀ k)
             ∙ ap (λ o. bind o (walk (arities book) (retag (value i) more))) (stepped E ∙ ap (arrived (arities book) v k) z)));
@@ -119,9 +120,9 @@ module _ (book s : List ℕ) (k at i : ℕ) (w₀ : List ℕ) (spans : Spans w�
       }
         where
           more : List (Node Exp)
-          more = (passage book s (left - 1) q).met
+          more = (passage book s u.left u.stand).met
 
-      pub walking_on : {next : Place} → r ≡ Some next → Walking book s k at i w₀ v next (left - 1) q
+      pub walking_on : {next : Place} → r ≡ Some next → Walking book s k at i w₀ v next u
       unfolding arrived Inside
       walking_on z = record {
         going = going_on g.going here (λ E. stepped E ∙ ap (arrived (arities book) v k) z);

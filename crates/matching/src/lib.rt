@@ -11,9 +11,9 @@ ghost use Rattle.calls.specs.Standing.{Spans};
 ghost use Rattle.matching.specs.Matching.{Matches, FitsAt, FirstFit, LastIndex, Tries, SearchesNodes, Searches};
 
 use calls::Place;
+use instances::Header;
 use instances::fillings::forget;
-use instances::nodes::header_of;
-use instances::{Header, Side, Stand};
+use instances::nodes::Walk;
 use table::{BOUND, EMPTY, FIRST, OFF};
 
 // The variable x takes the term at a place.
@@ -72,17 +72,12 @@ fn fits_at(book: &[u8], s: &[u8], w: &mut [u64], k: usize, at: usize, i: u16) ->
 {
     forget(w, BOUND);
     let mut place = Place { node: 0, used: 0 };
-    let mut p = Stand { at, pending: 1 };
-    let mut left: usize = 256;
-    while !instances::is_over(p, left) {
-        let header = header_of(book, bits::view(s, p.at), p.at, bits::room(s));
-        let stand = instances::next(header, p.pending);
+    let mut walk = Walk::new(book, s, at);
+    while let Some(header) = walk.next() {
         let Some(next) = match_node(w, k, header, i, place) else {
             return false;
         };
         place = next;
-        p = stand;
-        left -= 1;
     }
     true
 }
@@ -157,8 +152,6 @@ pub fn search(
     ensures { Searches book.now certificate.now call.now at alpha w.old w.new result }
 {
     forget(w, EMPTY);
-    match instances::build(book, call, call, w, FIRST, 0, 1, 0, EMPTY) {
-        Side::Full => None,
-        Side::Done { nodes: k, .. } => search_nodes(book, certificate, w, k, at, alpha),
-    }
+    let side = instances::build(book, call, call, w, FIRST, 0, 1, 0, EMPTY)?;
+    search_nodes(book, certificate, w, side.nodes, at, alpha)
 }
