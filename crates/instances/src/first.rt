@@ -69,18 +69,18 @@ fn push_listed(
     certificate: &[u8],
     w: &mut [u64],
     base: usize,
-    n: usize,
+    from: Grown,
     word: u64,
-    last: Spelt,
 ) -> Option<Grown>
-    requires room { Room base n w.old }
-    requires n_bound { (load (stack w.old base n) ≤ 2 ^ 60) × (1 ≤ word) × Remembers book.now certificate.now w.old base n last }
-    ensures { Grows book.now certificate.now base n (walked book.now certificate.now (word - 1)).met w.old w.new result }
+    requires room { Room base from.nodes w.old }
+    requires n_bound { (load (stack w.old base from.nodes) ≤ 2 ^ 60) × (1 ≤ word) × Remembers book.now certificate.now w.old base from.nodes from.last }
+    ensures { Grows book.now certificate.now base from.nodes (walked book.now certificate.now (word - 1)).met w.old w.new result }
 {
+    let Grown { nodes: n, last } = from;
     let closed = table::is_closed(w, base, n);
     if is_repeated(closed, word, last.word) {
         let k = table::copy(w, base, n, last.from, last.count)?;
-        return Some(Grown { nodes: k, last });
+        return Some(Grown { nodes: k, ..from });
     }
     let k = spell(book, certificate, w, base, n, (word - 1) as usize)?;
     Some(Grown {
@@ -95,21 +95,20 @@ pub fn push_filled(
     certificate: &[u8],
     w: &mut [u64],
     base: usize,
-    n: usize,
+    from: Grown,
     header: Header,
     i: u16,
     j: u16,
     fills: usize,
-    last: Spelt,
 ) -> Option<Grown>
-    requires room { Room base n w.old }
-    requires n_bound { (load (stack w.old base n) ≤ 2 ^ 60) × (fills + 64 ≤ length w.old) × Remembers book.now certificate.now w.old base n last }
-    ensures { Grows book.now certificate.now base n (flat_map (filled book.now certificate.now w.old fills i j) (single header)) w.old w.new result }
+    requires room { Room base from.nodes w.old }
+    requires n_bound { (load (stack w.old base from.nodes) ≤ 2 ^ 60) × (fills + 64 ≤ length w.old) × Remembers book.now certificate.now w.old base from.nodes from.last }
+    ensures { Grows book.now certificate.now base from.nodes (flat_map (filled book.now certificate.now w.old fills i j) (single header)) w.old w.new result }
 {
     let word = word_of(w, fills, header);
     if word == 0 {
-        let k = table::push(w, base, n, item_of(header, i, j))?;
-        return Some(Grown { nodes: k, last });
+        let k = table::push(w, base, from.nodes, item_of(header, i, j))?;
+        return Some(Grown { nodes: k, ..from });
     }
-    push_listed(book, certificate, w, base, n, word, last)
+    push_listed(book, certificate, w, base, from, word)
 }

@@ -223,8 +223,7 @@ pub fn build(
     };
     let mut walk = Walk::new(book, s, at);
     while let Some(header) = walk.next() {
-        let Grown { nodes, last } = grown;
-        grown = push_filled(book, certificate, w, base, nodes, header, i, j, fills, last)?;
+        grown = push_filled(book, certificate, w, base, grown, header, i, j, fills)?;
     }
     Some(Side {
         nodes: grown.nodes,

@@ -62,14 +62,14 @@ fn hold_listed(
     certificate: &[u8],
     w: &[u64],
     base: usize,
-    h: Held,
+    from: Passed,
     word: u64,
-    last: Spelt,
 ) -> Passed
-    requires room { Room base h.parts w.now }
-    requires nodes_bound { (h.nodes ≤ NODES) × (h.power.a + h.power.b ≤ 2 ^ 60) × (1 ≤ word) × Remembers book.now certificate.now w.now base NODES last × Tracked w.now base h }
-    ensures { Passes book.now certificate.now w.now base (walked book.now certificate.now (word - 1)).met h result }
+    requires room { Room base from.held.parts w.now }
+    requires nodes_bound { (from.held.nodes ≤ NODES) × (from.held.power.a + from.held.power.b ≤ 2 ^ 60) × (1 ≤ word) × Remembers book.now certificate.now w.now base NODES from.last × Tracked w.now base from.held }
+    ensures { Passes book.now certificate.now w.now base (walked book.now certificate.now (word - 1)).met from.held result }
 {
+    let Passed { held: h, last } = from;
     if is_repeated(w, base, h, word, last) {
         return Passed {
             held: Held {
@@ -92,25 +92,24 @@ fn hold_filled(
     certificate: &[u8],
     w: &[u64],
     base: usize,
-    h: Held,
+    from: Passed,
     header: Header,
     i: u16,
     j: u16,
     fills: usize,
-    last: Spelt,
 ) -> Passed
-    requires room { Room base h.parts w.now }
-    requires nodes_bound { (h.nodes ≤ NODES) × (h.power.a + h.power.b ≤ 2 ^ 60) × (fills + 64 ≤ length w.now) × Remembers book.now certificate.now w.now base NODES last × Tracked w.now base h }
-    ensures { Passes book.now certificate.now w.now base (flat_map (filled book.now certificate.now w.now fills i j) (single header)) h result }
+    requires room { Room base from.held.parts w.now }
+    requires nodes_bound { (from.held.nodes ≤ NODES) × (from.held.power.a + from.held.power.b ≤ 2 ^ 60) × (fills + 64 ≤ length w.now) × Remembers book.now certificate.now w.now base NODES from.last × Tracked w.now base from.held }
+    ensures { Passes book.now certificate.now w.now base (flat_map (filled book.now certificate.now w.now fills i j) (single header)) from.held result }
 {
     let word = word_of(w, fills, header);
     if word == 0 {
         return Passed {
-            held: table::second::hold(w, base, h, item_of(header, i, j)),
-            last,
+            held: table::second::hold(w, base, from.held, item_of(header, i, j)),
+            ..from
         };
     }
-    hold_listed(book, certificate, w, base, h, word, last)
+    hold_listed(book, certificate, w, base, from, word)
 }
 
 // The instance of the term at a bit of s, reindexed by (i, j) and filled by terms of the certificate as the words at `fills` tell, held against
@@ -140,8 +139,7 @@ pub fn hold_instance(
     };
     let mut walk = Walk::new(book, s, at);
     while let Some(header) = walk.next() {
-        let Passed { held, last } = passed;
-        passed = hold_filled(book, certificate, w, base, held, header, i, j, fills, last);
+        passed = hold_filled(book, certificate, w, base, passed, header, i, j, fills);
         if passed.held.nodes > NODES {
             return Outcome::Full;
         }

@@ -25,7 +25,7 @@ use Rattle.table.proofs.Writes.{kept_self, kept_then}
 use Rattle.table.proofs.Answer.{says_true, says_false}
 use Rattle.instances.specs.Lying.{arities, TermAt, behind}
 use Rattle.instances.specs.Fillings.{unlisted, FillsTold}
-use Rattle.instances.specs.Instances.{Levels, Stored, FewNodes, Builds}
+use Rattle.instances.specs.Instances.{Levels, Stored, Builds}
 use Rattle.instances.specs.Listings.{Forgets}
 use Rattle.instances.specs.Walks.{Passage, walked}
 use Rattle.instances.specs.declared.Side.{Side}
@@ -137,10 +137,6 @@ searched_nodes {book} {s} {k} {at} {α} {n} {w} {v} {after} {r} few N T F = reco
 own_form : (c : Pattern) → Call c → form one (fill var (reindex one (1, 0) c)) ≡ c
 own_form c C = ap (form one) (fill_var (reindex one (1, 0) c) ∙ as_it_is c) ∙ normal_is_its_own_form c C.normal
 
-pub few_built : {o : Option Side} {x : Side} → FewNodes o → o ≡ Some x → x.nodes ≤ NODES
-unfolding FewNodes
-few_built f e = subst FewNodes e f
-
 module _ {book call w u v : List ℕ} {built : Option Side} (f : Forgets EMPTY w u) (b : Builds book call call FIRST 0 1 0 EMPTY u v built) where
   unfilled : FillsTold book call u EMPTY var
   unfilled = record { each = λ x. unlisted (f.none x) }
@@ -148,21 +144,21 @@ module _ {book call w u v : List ℕ} {built : Option Side} (f : Forgets EMPTY w
   stored : (c : Pattern) → TermAt book call 0 c → Stored FIRST (some (fill var (reindex one (1, 0) c))) (behind 0 c) v built
   stored c h = b.told c var h unfilled
 
-  pub search_full : {cert : List ℕ} {at α : ℕ} → built ≡ None → Searches book cert call at α w v None
+  pub search_full : {cert : List ℕ} {at α : ℕ} {r : Option ℕ} → built ≡ None → r ≡ None → Searches book cert call at α w v r
   unfolding Stored Built mark_nodes
-  search_full e = record {
+  search_full e none = rw none (record {
     told = λ t c T C K.
         let s : NODES < length (nodes (form one (fill var (reindex one (1, 0) c)))) = subst (Stored FIRST (some (fill var (reindex one (1, 0) c))) (behind 0 c) v) e (stored c C) in
         absurd (omega (arith, s, ap (λ d. length (nodes d)) (own_form c K), length_nodes c, C.small));
     size = b.kept.size ∙ f.kept.size;
-  }
+  })
 
-  pub search_done : {cert : List ℕ} {at α : ℕ} (x : Side) {after : List ℕ} {r : Option ℕ} → built ≡ Some x
-      → SearchesNodes book cert x.nodes at α v after r → Searches book cert call at α w after r
+  pub search_done : {cert : List ℕ} {at α : ℕ} {a : Side} {after : List ℕ} {r : Option ℕ} → built ≡ Some a → SearchesNodes book cert a.nodes at α v after r
+      → Searches book cert call at α w after r
   unfolding Stored Built mark_nodes
-  search_done x e S = record {
+  search_done {a = a} e S = record {
     told = λ t c T C K.
-        let s : Stored FIRST (some (fill var (reindex one (1, 0) c))) (behind 0 c) v (Some x) = subst (Stored FIRST (some (fill var (reindex one (1, 0) c))) (behind 0 c) v) e (stored c C) in
+        let s : Stored FIRST (some (fill var (reindex one (1, 0) c))) (behind 0 c) v (Some a) = subst (Stored FIRST (some (fill var (reindex one (1, 0) c))) (behind 0 c) v) e (stored c C) in
         S.told t c T (s.0.1 ∙ ap nodes (own_form c K)) K;
     size = S.size ∙ b.kept.size ∙ f.kept.size;
   }

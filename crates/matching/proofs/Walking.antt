@@ -86,16 +86,16 @@ module _ (book s : List ℕ) (k at i : ℕ) (w₀ : List ℕ) (spans : Spans w�
     -- the pattern is over: it fits
     pub walking_over : {u : Walk} → Turns t u None → FitsAt book s k at i w₀ w true
     unfolding fits found
-    walking_over e = record {
+    walking_over n = record {
       told = λ E.
           ap found
           (sym
-          (ap (λ (v : Passage). walk (arities book) (retag (value i) v.met) (begin w₀ k)) (going_over g.going e)
+          (ap (λ (v : Passage). walk (arities book) (retag (value i) v.met) (begin w₀ k)) (going_over g.going n)
           ∙ g.going.holds E));
       kept = g.kept;
     }
 
-    module _ {h : Header} {u : Walk} (here : Turns t u (Some h)) {v : List ℕ} {r : Option Place} (m : Matches k place (retag (value i) (single h)) w v r) where
+    module _ {u : Walk} {h : Header} (here : Turns t u (Some h)) {v : List ℕ} {r : Option Place} (m : Matches k place (retag (value i) (single h)) w v r) where
       -- one node more
       stepped : Ends (arities book) w₀ k 0
           → walk (arities book) (retag (value i) (g.going.met ++ single h)) (begin w₀ k) ≡ arrived (arities book) v k r
@@ -112,7 +112,7 @@ module _ (book s : List ℕ) (k at i : ℕ) (w₀ : List ℕ) (spans : Spans w�
         told = λ E.
             ap found
             (sym
-            (ap (λ (v : Passage). walk (arities book) (retag (value i) v.met) (begin w₀ k)) (going_more g.going here)
+            (ap (λ (o : Passage). walk (arities book) (retag (value i) o.met) (begin w₀ k)) (going_more g.going here)
             ∙ ap (λ ns. walk (arities book) ns (begin w₀ k)) (retag_append (value i) (g.going.met ++ single h) more)
             ∙ walk_append (arities book) (retag (value i) (g.going.met ++ single h)) (retag (value i) more) (begin w₀ k)
             ∙ ap (λ o. bind o (walk (arities book) (retag (value i) more))) (stepped E ∙ ap (arrived (arities book) v k) z)));

@@ -7,7 +7,11 @@ pub loop-header-init : goal.loop-header-init
 loop-header-init c = rw c.into_iter-header-iterator.ensures.into_iter_gives (walking_start _ _ _ _ _ _ c.requires c.forget.ensures c.new-header-items.ensures)
 
 pub match_node-requires : goal.match_node-requires
-match_node-requires c = (walking_spans _ _ _ _ _ _ c.requires c.loop-header.invariant, c.loop-header.invariant.inside, (meets c.loop-header.invariant.going c.in-Some.ensures.steps).named)
+match_node-requires c = (
+  walking_spans _ _ _ _ _ _ c.requires c.loop-header.invariant,
+  c.loop-header.invariant.inside,
+  (meets c.loop-header.invariant.going c.in-Some.ensures.steps).named,
+)
 
 pub returns-in_default : goal.returns-in_default
 returns-in_default c = walking_off _ _ _ _ _ _ c.requires c.loop-header.invariant c.in-Some.ensures.steps c.match_node.ensures c.in_default.is
