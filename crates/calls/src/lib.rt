@@ -40,7 +40,7 @@ fn arity_of(book: &[u8], f: u64) -> usize
         return 16;
     };
     let none = [0u16; 0];
-    terms::arity(book, &none, false, u16::from(symbol)) as usize
+    usize::from(terms::arity(book, &none, false, u16::from(symbol)))
 }
 
 // How many terms follow a node, by its first word.
@@ -90,10 +90,7 @@ fn number_of(w: &[u64], j: usize) -> u64
     ensures { result ≡ largest (node_at w.now (FIRST + 3 * j) ∷ []) }
 {
     let at = FIRST + 3 * j;
-    if w[at] % 3 == 2 {
-        return w[at + 2];
-    }
-    0
+    if w[at] % 3 == 2 { w[at + 2] } else { 0 }
 }
 
 // The largest number of the powers among k nodes.
