@@ -67,6 +67,22 @@ notes_one book at k n next w after ne room passes rest = record {
         let behind = subst (λ j. Lies book j (flat_map rule_fields rs)) (sym end) (lies_back book at (rule_fields r₀) (flat_map rule_fields rs) p) in
         subst (λ j. RuleAt book ars (get_or after j 0) r) (omega arith) (rest.told ars rs a (omega arith) f.1 behind i r q)
 
+-- what the loop over rules keeps: whatever is noted of the m rules left, from row j on, is noted of all n
+pub record NotesOn (book : List ℕ) (at k n : ℕ) (w : List ℕ) (here j m : ℕ) (v : List ℕ) : Type 0 where
+  pub whole : {after : List ℕ} → NotesRules book here j m v after → NotesRules book at k n w after
+
+pub rules_here : {book : List ℕ} {at k n m : ℕ} {w : List ℕ} → m ≡ n → NotesOn book at k n w at k m w
+rules_here {book} {at} {k} {w = w} e = record { whole = λ {after} h. subst (λ i. NotesRules book at k i w after) e h }
+
+module _ {book : List ℕ} {at k n here j m : ℕ} {w v : List ℕ} (N : NotesOn book at k n w here j m v) where
+  pub rules_end : m ≡ 0 → NotesRules book at k n w v
+  rules_end z = N.whole (notes_none book here j m v z)
+
+  pub rules_on : {next less : ℕ} → m ≢ 0 → less ≡ m - 1 → j < length v → PassesRule book here next → NotesOn book at k n w next (j + 1) less (set v j here)
+  rules_on {next} ne l room passes = record {
+    whole = λ {after} h. N.whole (notes_one book here j m next v after ne room passes (subst (λ i. NotesRules book next (j + 1) i (set v j here) after) l h));
+  }
+
 -- ---- the whole book
 
 width_arities : (ars : List ℕ) → width (flat_map arity_fields ars) ≡ 4 * length ars

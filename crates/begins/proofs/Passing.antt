@@ -52,6 +52,20 @@ passes_one book s at n next r ne skips rest = record { told = go }
           rest.told ars ts k (omega arith) f.1 (subst (λ a. Lies s a (flat_map term_fields ts)) (sym here) behind),
         )
 
+-- what the loop over terms keeps: where the m terms left end, all n do
+pub record PassesOn (book s : List ℕ) (at n here m : ℕ) : Type 0 where
+  pub whole : {r : ℕ} → Passes book s here m r → Passes book s at n r
+
+pub terms_here : {book s : List ℕ} {at n m : ℕ} → m ≡ n → PassesOn book s at n at m
+terms_here {book} {s} {at} e = record { whole = λ {r} h. subst (λ k. Passes book s at k r) e h }
+
+module _ {book s : List ℕ} {at n here m : ℕ} (P : PassesOn book s at n here m) where
+  pub terms_end : m ≡ 0 → Passes book s at n here
+  terms_end z = P.whole (passes_none book s here m z)
+
+  pub terms_on : {next less : ℕ} → m ≢ 0 → less ≡ m - 1 → Skips book s here next → PassesOn book s at n next less
+  terms_on {next} ne l skips = record { whole = λ {r} h. P.whole (passes_one book s here m next r ne skips (subst (λ k. Passes book s next k r) l h)) }
+
 pub passes_rule : (book : List ℕ) (at r : ℕ) (c : Read) → Takes book 4 at c → Passes book book c.at (c.value + 1) r → PassesRule book at r
 unfolding rule_fields flat_map width Every
 passes_rule book at r c t p = record {

@@ -23,11 +23,11 @@ pub struct Instance {
 fn pass_terms(book: &[u8], s: &[u8], at: usize, n: usize) -> usize
     ensures { Passes book.now s.now at n result }
 {
-    if n == 0 {
-        return at;
+    let mut end = at;
+    for _ in 0..n {
+        end = instances::skip(book, s, end);
     }
-    let next = instances::skip(book, s, at);
-    pass_terms(book, s, next, n - 1)
+    end
 }
 
 // Where the rule at a bit ends.
@@ -35,8 +35,7 @@ fn pass_rule(book: &[u8], at: usize) -> usize
     ensures { PassesRule book.now at result }
 {
     let calls = field(book, 4, at);
-    let n = calls.value as usize;
-    pass_terms(book, book, calls.at, n + 1)
+    pass_terms(book, book, calls.at, calls.value as usize + 1)
 }
 
 // The begins of the n rules at a bit, noted from word k on.
@@ -44,12 +43,11 @@ fn note_rules(book: &[u8], w: &mut [u64], at: usize, k: usize, n: usize)
     requires { (k + n ≤ ROWS) × (WORDS ≤ length w.old) }
     ensures { NotesRules book.now at k n w.old w.new }
 {
-    if n == 0 {
-        return;
+    let mut next = at;
+    for row in k..k + n {
+        w[row] = next as u64;
+        next = pass_rule(book, next);
     }
-    w[k] = at as u64;
-    let next = pass_rule(book, at);
-    note_rules(book, w, next, k + 1, n - 1);
 }
 
 // The begins of the book's rules, noted from word 0 on.
@@ -69,11 +67,11 @@ pub fn pass_right(book: &[u8], certificate: &[u8], at: usize) -> usize
     ensures { PassesRight book.now certificate.now at result }
 {
     let any = field(certificate, 1, at);
-    let end = any.at;
     if any.value == 0 {
-        return end;
+        any.at
+    } else {
+        instances::skip(book, certificate, any.at)
     }
-    instances::skip(book, certificate, end)
 }
 
 // A bit offset that was noted.

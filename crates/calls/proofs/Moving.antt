@@ -16,7 +16,7 @@ use Rattle.table.proofs.Nodes.{TellsNode, is_var, is_fun, is_pow, tells, fun_tol
 use Rattle.calls.specs.Standing.{counted, counted_node, rest, less, lessened, left_at, end_of, Spans}
 use Rattle.calls.specs.Moving.{Behind, moved, Inside, Goes}
 use Rattle.calls.specs.declared.Place.{Place}
-use Rattle.calls.specs.declared.Move.TheVariants.{On, Off}
+use Rattle.std.specs.Prelude.{Some, None}
 use Rattle.calls.proofs.Standing.{rest_node, rest_end, lessened_none, behind_lessened}
 
 abbrev at_node : ℕ → Place
@@ -62,7 +62,7 @@ module _ (w : List ℕ) (k : ℕ) (p : Place) where
     b = get_or w (FIRST + 3 * p.node + 2) 0
 
     -- no symbol f
-    pub under_other : (f : ℕ) → code ≢ 3 * f + 1 → Goes w k (under f (left_at w k p)) Off
+    pub under_other : (f : ℕ) → code ≢ 3 * f + 1 → Goes w k (under f (left_at w k p)) None
     unfolding moved Inside counted_node node_at under less counted
     under_other f h = record { is = sym (ap (under f) shown ∙ go (tells _ _ _)); inside = tt }
       where
@@ -71,7 +71,7 @@ module _ (w : List ℕ) (k : ℕ) (p : Place) where
         go (is_fun g e) = if_neg (ℕ_discrete f g) (λ z. h (omega arith)) _ _
         go (is_pow g e) = refl
 
-    pub under_like : (f : ℕ) → code ≡ 3 * f + 1 → Goes w k (under f (left_at w k p)) (On (at_node (p.node + 1)))
+    pub under_like : (f : ℕ) → code ≡ 3 * f + 1 → Goes w k (under f (left_at w k p)) (Some (at_node (p.node + 1)))
     unfolding moved Inside counted_node node_at under less counted
     under_like f h = record {
       is =
@@ -88,7 +88,7 @@ module _ (w : List ℕ) (k : ℕ) (p : Place) where
             ap (λ c. counted (node_of c a b)) h ∙ ap counted (fun_told f a b)
 
     -- no power of s
-    pub below_other : (s n : ℕ) → n ≢ 0 → code ≢ 3 * s + 2 → Goes w k (below s n (left_at w k p)) Off
+    pub below_other : (s n : ℕ) → n ≢ 0 → code ≢ 3 * s + 2 → Goes w k (below s n (left_at w k p)) None
     unfolding moved Inside counted_node node_at below less counted
     below_other s n z h = record { is = sym (ap (below s n) shown ∙ go n z (tells _ _ _)); inside = tt }
       where
@@ -117,7 +117,7 @@ module _ (w : List ℕ) (k : ℕ) (p : Place) where
       taken_off (suc n) z l = ap (below s (suc n)) power ∙ if_pos (ℕ_discrete s s) refl _ _ ∙ if_pos (dec_le (suc n) (b - p.used)) l _ _
 
       module _ (n left : ℕ) (z : n ≢ 0) (e : left ≡ b - p.used) where
-        pub below_short : left < n → Goes w k (below s n (left_at w k p)) Off
+        pub below_short : left < n → Goes w k (below s n (left_at w k p)) None
         unfolding moved Inside below
         below_short l = record { is = sym (go n z (omega arith)); inside = tt }
           where
@@ -127,7 +127,7 @@ module _ (w : List ℕ) (k : ℕ) (p : Place) where
                 ap (below s (suc m)) power ∙ if_pos (ℕ_discrete s s) refl _ _ ∙ if_neg (dec_le (suc m) (b - p.used)) (λ q. omega arith) _ _
 
         -- and no longer
-        pub below_whole : n ≡ left → Goes w k (below s n (left_at w k p)) (On (at_node (p.node + 1)))
+        pub below_whole : n ≡ left → Goes w k (below s n (left_at w k p)) (Some (at_node (p.node + 1)))
         unfolding moved Inside upon
         below_whole q =
             let zeroth : b - p.used - n ≡ 0 = omega arith in
@@ -139,7 +139,7 @@ module _ (w : List ℕ) (k : ℕ) (p : Place) where
             }
 
         -- the rest of it stands
-        pub below_part : n < left → Goes w k (below s n (left_at w k p)) (On (record { node = p.node; used = p.used + n }))
+        pub below_part : n < left → Goes w k (below s n (left_at w k p)) (Some (record { node = p.node; used = p.used + n }))
         unfolding moved Inside upon left_at lessened less
         below_part q = record {
           is = ap (λ ms. some ms) (standing ∙ sym (stays (b - p.used - n) (omega arith))) ∙ sym (taken_off n z (omega arith));
@@ -159,11 +159,11 @@ module _ (w : List ℕ) (k : ℕ) (p : Place) where
 
   -- ---- at the call's end, and without a step
 
-  pub under_gone : (f : ℕ) → p.node ≡ k → Goes w k (under f (left_at w k p)) Off
+  pub under_gone : (f : ℕ) → p.node ≡ k → Goes w k (under f (left_at w k p)) None
   unfolding moved Inside under
   under_gone f e = record { is = sym (ap (under f) (at_end e)); inside = tt }
 
-  pub below_gone : (s n : ℕ) → n ≢ 0 → p.node ≡ k → Goes w k (below s n (left_at w k p)) Off
+  pub below_gone : (s n : ℕ) → n ≢ 0 → p.node ≡ k → Goes w k (below s n (left_at w k p)) None
   unfolding moved Inside below
   below_gone s n z e = record { is = sym (ap (below s n) (at_end e) ∙ go n z); inside = tt }
     where
@@ -171,7 +171,7 @@ module _ (w : List ℕ) (k : ℕ) (p : Place) where
       go zero y = absurd (y refl)
       go (suc i) y = refl
 
-  pub below_none : (s n : ℕ) → n ≡ 0 → p.node ≤ k → Goes w k (below s n (left_at w k p)) (On p)
+  pub below_none : (s n : ℕ) → n ≡ 0 → p.node ≤ k → Goes w k (below s n (left_at w k p)) (Some p)
   unfolding moved Inside below
   below_none s n z l = record { is = go n z; inside = l }
     where

@@ -1,5 +1,5 @@
 -- The largest number of the nodes that were passed, and of one more.
-use Prim.Native.Nat.{ℕ, suc, ◌+◌, ◌*◌, ◌%◌, ◌≤◌, ◌<◌}
+use Prim.Native.Nat.{ℕ, suc, max, ◌+◌, ◌*◌, ◌%◌, ◌≤◌, ◌<◌}
 use mathlib.Core.Path.{◌≡◌, refl, sym, ◌∙◌, ap, ap₂}
 use mathlib.Core.Logic.{◌≢◌, ite}
 use mathlib.Core.List.{List, [], ◌∷◌, ◌++◌, reverse-cons}
@@ -15,7 +15,7 @@ use Rattle.table.proofs.Nodes.{TellsNode, is_var, is_fun, is_pow, tells, is_powe
 
 -- ---- the larger of two
 
-pub larger_second : (n m : ℕ) → n ≤ m → m ≡ larger n m
+larger_second : (n m : ℕ) → n ≤ m → m ≡ larger n m
 unfolding larger
 larger_second n m h = go (dec_le n m)
   where
@@ -23,13 +23,20 @@ larger_second n m h = go (dec_le n m)
     go (yes p) = refl
     go (no p) = absurd (p h)
 
-pub larger_first : (n m : ℕ) → m < n → n ≡ larger n m
+larger_first : (n m : ℕ) → m < n → n ≡ larger n m
 unfolding larger
 larger_first n m h = go (dec_le n m)
   where
     go : (d : Dec (n ≤ m)) → n ≡ ite d m n
     go (yes p) = absurd (omega arith)
     go (no p) = refl
+
+larger_max : (n m : ℕ) → max n m ≡ larger n m
+larger_max n m = go (dec_le n m)
+  where
+    go : Dec (n ≤ m) → max n m ≡ larger n m
+    go (yes p) = let q : max n m ≡ m = omega arith in q ∙ larger_second n m p
+    go (no p) = let q : max n m ≡ n = omega arith in q ∙ larger_first n m (omega arith)
 
 -- a third, before or behind
 larger_turn : (n m k : ℕ) → larger n (larger m k) ≡ larger m (larger n k)
@@ -89,14 +96,11 @@ pub largest_none : (w : List ℕ) → 0 ≡ largest (side w FIRST 0)
 unfolding side stack largest
 largest_none w = refl
 
-pub largest_more : (w : List ℕ) (j most n r : ℕ) → most ≡ largest (side w FIRST j) → n ≡ largest (node_at w (FIRST + 3 * j) ∷ []) → r ≡ larger n most
+pub largest_more : (w : List ℕ) (j most n r : ℕ) → most ≡ largest (side w FIRST j) → n ≡ largest (node_at w (FIRST + 3 * j) ∷ []) → r ≡ max n most
     → r ≡ largest (side w FIRST (j + 1))
 unfolding side stack
 largest_more w j most n r e f g =
     let up : suc j ≡ j + 1 = omega arith in
-    g ∙ ap₂ larger f e ∙ sym (largest_behind (side w FIRST j) (node_at w (FIRST + 3 * j)))
+    g ∙ larger_max n most ∙ ap₂ larger f e ∙ sym (largest_behind (side w FIRST j) (node_at w (FIRST + 3 * j)))
     ∙ ap largest (sym (reverse-cons (node_at w (FIRST + 3 * j)) (stack w FIRST j)))
     ∙ ap (λ i. largest (side w FIRST i)) up
-
-pub largest_all : (w : List ℕ) (k j most : ℕ) → j ≤ k → k ≤ j → most ≡ largest (side w FIRST j) → most ≡ largest (side w FIRST k)
-largest_all w k j most p q e = let same : j ≡ k = omega arith in e ∙ ap (λ i. largest (side w FIRST i)) same

@@ -101,33 +101,31 @@ Equal w p q n = lessened p.used (nodes_from w p.node n) ≡ lessened q.used (nod
 abbrev next : Place → Place
 next p = record { node = p.node + 1; used = 0 }
 
--- of n nodes from p and from q on, `more` are left from a and from b on, and those before are the same
-pub record Comparing (w : List ℕ) (p q : Place) (n : ℕ) (a b : Place) (more : ℕ) : Type 0 where
-  pub whole : Equal w a b more ↔ Equal w p q n
-  pub first : a.node + more ≡ p.node + n
-  pub second : b.node + more ≡ q.node + n
+-- of n nodes from p and from q on, i were met and are the same; the others stand from a and from b on
+pub record Comparing (w : List ℕ) (p q : Place) (n : ℕ) (a b : Place) (i : ℕ) : Type 0 where
+  pub whole : Equal w a b (n - i) ↔ Equal w p q n
+  pub first : a.node ≡ p.node + i
+  pub second : b.node ≡ q.node + i
 
 module _ {w : List ℕ} {p q : Place} {n : ℕ} where
-  pub comparing_start : Comparing w p q n p q n
-  comparing_start = record { whole = (λ e. e, λ e. e); first = refl; second = refl }
-
-  module _ {a b : Place} {more : ℕ} (h : Comparing w p q n a b more) where
-    pub comparing_over : more ≤ 0 → Says (Equal w p q n) true
+  module _ {a b : Place} {i : ℕ} (h : Comparing w p q n a b i) where
+    pub comparing_over : n ≤ i → Says (Equal w p q n) true
     unfolding Says nodes_from lessened
-    comparing_over z = h.whole.0 (go more (omega arith))
+    comparing_over z = h.whole.0 (go (n - i) (omega arith))
       where
         go : (m : ℕ) → m ≡ 0 → Equal w a b m
         go zero e = refl
         go (suc m) e = absurd (omega arith)
 
-    module _ (some : 0 < more) where
-      heads : (u : Place) → lessened u.used (nodes_from w u.node more) ≡ less u.used (counted_node w u.node) ∷ nodes_from w (u.node + 1) (more - 1)
+    module _ (some : i < n) where
+      heads : (u : Place)
+          → lessened u.used (nodes_from w u.node (n - i)) ≡ less u.used (counted_node w u.node) ∷ nodes_from w (u.node + 1) (n - (i + 1))
       unfolding nodes_from lessened
       heads u =
-          let x : more ≡ suc (more - 1) = omega arith in
+          let x : n - i ≡ suc (n - (i + 1)) = omega arith in
           let y : suc u.node ≡ u.node + 1 = omega arith in
           ap (λ m. lessened u.used (nodes_from w u.node m)) x
-          ∙ ap (λ i. less u.used (counted_node w u.node) ∷ nodes_from w i (more - 1)) y
+          ∙ ap (λ j. less u.used (counted_node w u.node) ∷ nodes_from w j (n - (i + 1))) y
 
       pub comparing_not : (r : Bool) → Alike w a b r → r ≡ false → Says (Equal w p q n) false
       unfolding Says
@@ -136,7 +134,7 @@ module _ {w : List ℕ} {p q : Place} {n : ℕ} where
           front : {m k : Node ℕ} {ms ks : Left} → ◌≡◌ {A = Left} (m ∷ ms) (k ∷ ks) → m ≡ k
           front z = cc
 
-      pub comparing_on : (r : Bool) → Alike w a b r → r ≡ true → Comparing w p q n (next a) (next b) (more - 1)
+      pub comparing_on : (r : Bool) → Alike w a b r → r ≡ true → Comparing w p q n (next a) (next b) (i + 1)
       comparing_on r s e = record {
         whole = (
           λ z.

@@ -1,6 +1,7 @@
 -- What the ways to go on in a call answer.
-use Rattle.std.specs.Prelude.{ℕ, ◌+◌, ◌≤◌, ◌≡◌, List, Bool}
-use Rattle.std.proofs.Math.Option.{Option, none, some}
+use Rattle.std.specs.Prelude.{ℕ, ◌+◌, ◌≤◌, ◌≡◌, List, Bool, Option, Some, None}
+use Rattle.std.proofs.Math.Option.{none, some}
+use Rattle.std.proofs.Math.Option.{Option as Maybe}
 use Rattle.covering.specs.Left.{Left, places, taken, behind}
 use Rattle.table.specs.Answer.{Says}
 use Rattle.table.specs.Places.{NODES, ENDS}
@@ -8,8 +9,6 @@ use Rattle.table.specs.Nodes.{node_of}
 use Rattle.table.specs.Sides.{Kept}
 use Rattle.calls.specs.Standing.{counted, nodes_from, rest, left_at, Spans, Ends}
 use Rattle.calls.specs.declared.Place.{Place}
-use Rattle.calls.specs.declared.Move.{Move}
-use Rattle.calls.specs.declared.Move.TheVariants.{On, Off}
 
 -- so many terms follow a node with that first word
 pub record Follows (ar : ℕ → ℕ) (code r : ℕ) : Type 0 where
@@ -43,15 +42,15 @@ pub record Behind (w : List ℕ) (k : ℕ) (p r : Place) : Type 0 where
   pub inside : r.node ≤ k
 
 -- what is left of the call behind a move
-unfoldable pub moved : List ℕ → ℕ → Move → Option Left
-moved w k (On p) = some (left_at w k p)
-moved w k Off = none
+unfoldable pub moved : List ℕ → ℕ → Option Place → Maybe Left
+moved w k (Some p) = some (left_at w k p)
+moved w k None = none
 
-unfoldable pub Inside : ℕ → Move → Type 0
-Inside k (On p) = p.node ≤ k
-Inside k Off = Unit {0}
+unfoldable pub Inside : ℕ → Option Place → Type 0
+Inside k (Some p) = p.node ≤ k
+Inside k None = Unit {0}
 
 -- a move to where o is left of the call, if it is possible
-pub record Goes (w : List ℕ) (k : ℕ) (o : Option Left) (r : Move) : Type 0 where
+pub record Goes (w : List ℕ) (k : ℕ) (o : Maybe Left) (r : Option Place) : Type 0 where
   pub is : moved w k r ≡ o
   pub inside : Inside k r

@@ -7,7 +7,7 @@ ghost use Rattle.table.specs.Places.{WORDS, NODES, FIRST};
 ghost use Rattle.table.specs.Nodes.{node_at, side};
 ghost use Rattle.table.specs.Answer.{Says};
 ghost use Rattle.covering.specs.Left.{under, below};
-ghost use Rattle.covering.specs.Search.{larger, largest};
+ghost use Rattle.covering.specs.Search.{largest};
 ghost use Rattle.calls.specs.Standing.{less, lessened, counted_node, nodes_from, left_at, Spans};
 ghost use Rattle.calls.specs.Moving.{Follows, Passes, NotesEnds, Term, SameTerms, Behind, Goes};
 
@@ -20,25 +20,27 @@ pub struct Place {
     pub used: u64,
 }
 
-// Where a match goes on in the call; or it does not.
-#[derive(Clone, Copy)]
-pub enum Move {
-    On(Place),
-    Off,
+impl Place {
+    // The place of a node of which nothing is used up.
+    fn at(node: usize) -> Place
+        ensures { result ≡ record { node = node; used = 0 } }
+    {
+        Place { node, used: 0 }
+    }
 }
 
 // ---- where each term ends
 
 // The arity of a symbol, 16 where there is no such symbol.
+#[tactic(auto, using(crate::proofs::Arities::large_symbol))]
 fn arity_of(book: &[u8], f: u64) -> usize
     ensures { result ≡ arities book.now f }
 {
-    if f > 255 {
+    let Ok(symbol) = u8::try_from(f) else {
         return 16;
-    }
+    };
     let none = [0u16; 0];
-    let symbol = f as u16;
-    terms::arity(book, &none, false, symbol) as usize
+    usize::from(terms::arity(book, &none, false, u16::from(symbol)))
 }
 
 // How many terms follow a node, by its first word.
@@ -58,13 +60,11 @@ fn pass(w: &[u64], k: usize, j: usize, n: usize) -> usize
     ensures { Passes w.now k j n result }
 {
     let mut at = j;
-    let mut more = n;
-    while more > 0 {
+    for _ in 0..n {
         if at == k {
             return k;
         }
         at = w[ENDS + at] as usize;
-        more -= 1;
     }
     at
 }
@@ -74,64 +74,39 @@ pub fn note_ends(book: &[u8], w: &mut [u64], k: usize)
     requires { (WORDS ≤ length w.old) × (k ≤ NODES) }
     ensures { NotesEnds (arities book.now) k w.old w.new }
 {
-    let mut j = k;
-    while j > 0 {
-        let n = followers(book, w[FIRST + 3 * (j - 1)]);
-        let end = pass(w, k, j, n);
-        j -= 1;
+    for j in (0..k).rev() {
+        let n = followers(book, w[FIRST + 3 * j]);
+        let end = pass(w, k, j + 1, n);
         w[ENDS + j] = end as u64;
     }
 }
 
 // ---- the largest number
 
-// The larger of two numbers.
-fn larger(n: u64, m: u64) -> u64
-    ensures { result ≡ larger n m }
-{
-    if n <= m {
-        return m;
-    }
-    n
-}
-
 // The number of a node, 0 if it is no power.
+#[tactic(auto, using(crate::proofs::Numbers::largest_power, crate::proofs::Numbers::largest_other))]
 fn number_of(w: &[u64], j: usize) -> u64
     requires { (WORDS ≤ length w.now) × (j < NODES) }
     ensures { result ≡ largest (node_at w.now (FIRST + 3 * j) ∷ []) }
 {
     let at = FIRST + 3 * j;
-    if w[at] % 3 == 2 {
-        return w[at + 2];
-    }
-    0
+    if w[at] % 3 == 2 { w[at + 2] } else { 0 }
 }
 
 // The largest number of the powers among k nodes.
+#[tactic(auto, using(crate::proofs::Numbers::largest_none, crate::proofs::Numbers::largest_more))]
 pub fn largest(w: &[u64], k: usize) -> u64
     requires { (WORDS ≤ length w.now) × (k ≤ NODES) }
     ensures { result ≡ largest (side w.now FIRST k) }
 {
-    let mut most: u64 = 0;
-    let mut j: usize = 0;
-    while j < k {
-        most = larger(number_of(w, j), most);
-        j += 1;
+    let mut most = 0;
+    for j in 0..k {
+        most = number_of(w, j).max(most);
     }
     most
 }
 
 // ---- the same term at two places
-
-// What is left of b applications.
-fn rest_of(b: u64, used: u64) -> u64
-    ensures { result ≡ b - used }
-{
-    if used > b {
-        return 0;
-    }
-    b - used
-}
 
 // Whether what is left of two nodes is the same.
 fn alike(w: &[u64], p: Place, q: Place) -> bool
@@ -140,13 +115,8 @@ fn alike(w: &[u64], p: Place, q: Place) -> bool
 {
     let a = FIRST + 3 * p.node;
     let b = FIRST + 3 * q.node;
-    if w[a] != w[b] {
-        return false;
-    }
-    if w[a] % 3 != 2 {
-        return true;
-    }
-    rest_of(w[a + 2], p.used) == rest_of(w[b + 2], q.used)
+    w[a] == w[b]
+        && (w[a] % 3 != 2 || w[a + 2].saturating_sub(p.used) == w[b + 2].saturating_sub(q.used))
 }
 
 // Whether n nodes are the same from two places on.
@@ -156,20 +126,12 @@ fn same_nodes(w: &[u64], p: Place, q: Place, n: usize) -> bool
 {
     let mut a = p;
     let mut b = q;
-    let mut more = n;
-    while more > 0 {
+    for _ in 0..n {
         if !alike(w, a, b) {
             return false;
         }
-        a = Place {
-            node: a.node + 1,
-            used: 0,
-        };
-        b = Place {
-            node: b.node + 1,
-            used: 0,
-        };
-        more -= 1;
+        a = Place::at(a.node + 1);
+        b = Place::at(b.node + 1);
     }
     true
 }
@@ -194,13 +156,13 @@ pub fn same_term(w: &[u64], k: usize, p: Place, q: Place) -> bool
         return false;
     }
     let n = nodes_of(w, k, p.node);
-    if nodes_of(w, k, q.node) != n {
-        return false;
-    }
-    same_nodes(w, p, q, n)
+    nodes_of(w, k, q.node) == n && same_nodes(w, p, q, n)
 }
 
 // ---- the ways to go on
+
+// The table and k stay two arguments. As one struct with the invariant `Spans`, which was tried, they made the contracts longer
+// (`self.entry.w.now self.entry.k`), and `matching`, which writes into the same table, would make the struct anew for each move.
 
 // Behind the term at a place.
 pub fn behind(w: &[u64], k: usize, p: Place) -> Place
@@ -210,55 +172,46 @@ pub fn behind(w: &[u64], k: usize, p: Place) -> Place
     if p.node == k {
         return p;
     }
-    Place {
-        node: w[ENDS + p.node] as usize,
-        used: 0,
-    }
+    Place::at(w[ENDS + p.node] as usize)
 }
 
 // Behind the symbol f, if that comes next.
-pub fn under(w: &[u64], k: usize, f: u16, p: Place) -> Move
+pub fn under(w: &[u64], k: usize, f: u16, p: Place) -> Option<Place>
     requires { Spans w.now k 0 × (p.node ≤ k) }
     ensures { Goes w.now k (under f (left_at w.now k p)) result }
 {
     if p.node == k {
-        return Move::Off;
+        return None;
     }
-    if w[FIRST + 3 * p.node] != 3 * (f as u64) + 1 {
-        return Move::Off;
+    if w[FIRST + 3 * p.node] != 3 * u64::from(f) + 1 {
+        return None;
     }
-    Move::On(Place {
-        node: p.node + 1,
-        used: 0,
-    })
+    Some(Place::at(p.node + 1))
 }
 
 // Behind n applications of s, if so many come next.
-pub fn below(w: &[u64], k: usize, s: u16, n: u64, p: Place) -> Move
+pub fn below(w: &[u64], k: usize, s: u16, n: u64, p: Place) -> Option<Place>
     requires { Spans w.now k 0 × (p.node ≤ k) }
     ensures { Goes w.now k (below s n (left_at w.now k p)) result }
 {
     if n == 0 {
-        return Move::On(p);
+        return Some(p);
     }
     if p.node == k {
-        return Move::Off;
+        return None;
     }
     let at = FIRST + 3 * p.node;
-    if w[at] != 3 * (s as u64) + 2 {
-        return Move::Off;
+    if w[at] != 3 * u64::from(s) + 2 {
+        return None;
     }
-    let left = rest_of(w[at + 2], p.used);
+    let left = w[at + 2].saturating_sub(p.used);
     if n > left {
-        return Move::Off;
+        return None;
     }
     if n == left {
-        return Move::On(Place {
-            node: p.node + 1,
-            used: 0,
-        });
+        return Some(Place::at(p.node + 1));
     }
-    Move::On(Place {
+    Some(Place {
         node: p.node,
         used: p.used + n,
     })

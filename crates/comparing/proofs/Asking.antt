@@ -1,12 +1,12 @@
 -- What is asked at a part is looked at.
+use Rattle.std.proofs.Common.{Ok, Err}
 use Prim.Native.Nat.{ℕ}
 use mathlib.Core.Path.{◌≡◌, sym, subst, ◌∙◌}
 use mathlib.Core.List.{List}
 use Rattle.patterns.specs.Certificate.{Mark}
 use Rattle.patterns.specs.First.{Exp}
 use Rattle.table.specs.Places.{FIRST}
-use Rattle.comparing.specs.declared.Found.{Found}
-use Rattle.comparing.specs.declared.Found.TheVariants.{Fault, Good}
+use Rattle.comparing.specs.declared.Fault.{Fault}
 use Rattle.comparing.specs.declared.Whole.{Whole}
 use Rattle.comparing.specs.declared.Behind.{Behind}
 use Rattle.comparing.specs.declared.Behind.TheVariants.{Pending}
@@ -17,7 +17,7 @@ use Rattle.begins.specs.Placed.{RightAt}
 use Rattle.instances.specs.Lying.{KnownArities}
 use Rattle.begins.specs.Known.{Below}
 use Rattle.comparing.specs.Subjects.{Means}
-use Rattle.comparing.specs.Found.{Finds}
+use Rattle.comparing.specs.Found.{Found, Finds}
 use Rattle.comparing.specs.Rights.{lead, Looks, LooksLevel}
 use Rattle.comparing.specs.Asked.{asked_at, checks_of, end_of, Equals, LedEquals, Checks}
 use Rattle.begins.proofs.Frames.{below_self}
@@ -26,10 +26,10 @@ use Rattle.comparing.proofs.Finding.{finds_stop, finds_then}
 -- ---- a right, and then two sides
 
 module _ {book cert : List ℕ} {l n p right : ℕ} {q : Behind} {a b : Subject} {w : List ℕ} {x : Found} (k : Looks cert right q l p x) where
-  pub led_fault : {m i : ℕ} → x ≡ Fault m i → LedEquals book cert l n p right q a b w w (Fault m i)
+  pub led_fault : {f : Fault} → x ≡ Err f → LedEquals book cert l n p right q a b w w (Err f)
   led_fault e = record { told = λ ars t u m i y d j z. finds_stop _ (k.told ars t u) e; below = below_self FIRST w }
 
-  pub led_on : {after : List ℕ} {i : ℕ} {r : Found} → x ≡ Good i → Equals book cert n p a b w after r → LedEquals book cert l n p right q a b w after r
+  pub led_on : {after : List ℕ} {i : ℕ} {r : Found} → x ≡ Ok i → Equals book cert n p a b w after r → LedEquals book cert l n p right q a b w after r
   led_on e h = record {
     told = λ ars t u m i y d j z. finds_then (k.told ars t u) e (λ o. h.told m i y d j z);
     below = h.below;

@@ -1,4 +1,5 @@
 -- What a look at a right finds: the empty mark, a right that is there, one without index.
+use Rattle.std.proofs.Common.{Ok}
 use Prim.Native.Nat.{ℕ}
 use mathlib.Core.Path.{◌≡◌, refl, sym, subst}
 use mathlib.Core.Logic.{◌≢◌}
@@ -19,17 +20,15 @@ use Rattle.table.specs.Answer.{Says}
 use Rattle.table.proofs.Answer.{says_true, says_false}
 use Rattle.instances.specs.Instances.{Levels}
 use Rattle.instances.specs.declared.Read.{Read}
-use Rattle.comparing.specs.declared.Found.{Found}
-use Rattle.comparing.specs.declared.Found.TheVariants.{Fault, Good}
 use Rattle.comparing.specs.declared.Behind.{Behind}
 use Rattle.comparing.specs.declared.Behind.TheVariants.{Judged, Pending, Nothing}
 use Rattle.begins.specs.Placed.{RightAt}
 use Rattle.instances.specs.Lying.{KnownArities}
 use Rattle.instances.specs.Taking.{Takes}
-use Rattle.comparing.specs.Found.{Finds}
+use Rattle.comparing.specs.Found.{Found, Finds}
 use Rattle.comparing.specs.Rights.{EmptyRight, lead, Looks, LooksLevel}
 use Rattle.instances.proofs.Taking.{term_at, rest_at}
-use Rattle.comparing.proofs.Finding.{fault_none, finds_met, finds_unmet, finds_none}
+use Rattle.comparing.proofs.Finding.{fault_none, unmet, finds_met, finds_unmet, finds_none}
 
 -- ---- the empty mark
 
@@ -43,25 +42,25 @@ empty_right {cert} {at} {c} t = record { told = go }
         subst (Says _) (sym (ne_eqb c.value 0 (λ z. omega (arith, (t.told 1 (term_fields u) r.lies).0)))) (some-ne-none u)
 
 module _ {cert : List ℕ} {right n p : ℕ} {b : Bool} (e : EmptyRight cert right b) where
-  pub spent_met : b ≡ true → Looks cert right Judged n p (Good 0)
+  pub spent_met : b ≡ true → Looks cert right Judged n p (Ok 0)
   unfolding lead Met
   spent_met q = record { told = λ ars m a. finds_met (says_true _ (e.told ars m a) q) }
 
-  pub spent_unmet : b ≡ false → Looks cert right Judged n p (Fault n p)
+  pub spent_unmet : b ≡ false → Looks cert right Judged n p (unmet n p)
   unfolding lead Met
   spent_unmet q = record { told = λ ars m a. finds_unmet [] (says_false _ (e.told ars m a) q) }
 
-  pub present_met : b ≡ false → Looks cert right Pending n p (Good 0)
+  pub present_met : b ≡ false → Looks cert right Pending n p (Ok 0)
   unfolding lead Met
   present_met q = record { told = λ ars m a. finds_met (says_false _ (e.told ars m a) q) }
 
-  pub present_unmet : b ≡ true → Looks cert right Pending n p (Fault n p)
+  pub present_unmet : b ≡ true → Looks cert right Pending n p (unmet n p)
   unfolding lead Met
   present_unmet q = record { told = λ ars m a. finds_unmet [] (λ h. h (says_true _ (e.told ars m a) q)) }
 
 -- ---- the right of a use
 
-pub led_nothing : {cert : List ℕ} {right n p : ℕ} → Looks cert right Nothing n p (Good 0)
+pub led_nothing : {cert : List ℕ} {right n p : ℕ} → Looks cert right Nothing n p (Ok 0)
 unfolding lead
 led_nothing = record { told = λ ars m a. finds_none fault_none }
 
@@ -80,27 +79,27 @@ unfolding if_any OnMark
 levels t l ars k u r = l.told u (term_at k r.fits (rest_at t r.lies))
 
 module _ {book cert : List ℕ} {right n p : ℕ} {c : Read} (t : Takes cert 1 right c) where
-  pub level_none : c.value ≡ 0 → LooksLevel book cert right n p (Good 0)
+  pub level_none : c.value ≡ 0 → LooksLevel book cert right n p (Ok 0)
   unfolding if_any Met OnMark
   level_none z = record { told = go }
     where
-      go : LevelTold book cert right n p (Good 0)
+      go : LevelTold book cert right n p (Ok 0)
       go ars k none r = finds_met tt
       go ars k (some u) r = absurd (omega (arith, (t.told 1 (term_fields u) r.lies).0))
 
   module _ {b : Bool} (ne : c.value ≢ 0) (l : Levels book cert c.at b) where
-    pub level_yes : b ≡ true → LooksLevel book cert right n p (Good 0)
+    pub level_yes : b ≡ true → LooksLevel book cert right n p (Ok 0)
     unfolding if_any Met OnMark
     level_yes q = record { told = go }
       where
-        go : LevelTold book cert right n p (Good 0)
+        go : LevelTold book cert right n p (Ok 0)
         go ars k none r = absurd (ne (t.told 0 [] r.lies).0)
         go ars k (some u) r = finds_met (says_true _ (levels t l ars k u r) q)
 
-    pub level_no : b ≡ false → LooksLevel book cert right n p (Fault n p)
+    pub level_no : b ≡ false → LooksLevel book cert right n p (unmet n p)
     unfolding if_any Met OnMark
     level_no q = record { told = go }
       where
-        go : LevelTold book cert right n p (Fault n p)
+        go : LevelTold book cert right n p (unmet n p)
         go ars k none r = absurd (ne (t.told 0 [] r.lies).0)
         go ars k (some u) r = finds_unmet [] (says_false _ (levels t l ars k u r) q)

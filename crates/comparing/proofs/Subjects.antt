@@ -13,7 +13,7 @@ use Rattle.table.specs.Nodes.{side}
 use Rattle.table.specs.Sides.{Room}
 use Rattle.table.specs.Marks.{mark_nodes, form_nodes, Built}
 use Rattle.table.specs.Second.{Amounts}
-use Rattle.table.specs.declared.Pushed.TheVariants.{Count, NoRoom}
+use Rattle.std.specs.Prelude.{Option, Some, None}
 use Rattle.table.specs.declared.Outcome.{Outcome}
 use Rattle.table.specs.declared.Outcome.TheVariants.{Same, Other, Full as Many}
 use Rattle.table.proofs.Writes.{kept_self}
@@ -24,7 +24,6 @@ use Rattle.comparing.specs.declared.Filled.{Filled}
 use Rattle.comparing.specs.declared.Filled.TheVariants.{Bare, Used}
 use Rattle.comparing.specs.declared.Compared.TheVariants.{Equal, Unequal, TooBig}
 use Rattle.instances.specs.declared.Side.{Side}
-use Rattle.instances.specs.declared.Side.TheVariants.{Done, Full}
 use Rattle.instances.specs.Lying.{arities, behind}
 use Rattle.instances.specs.Instances.{Stored, FewNodes, Builds, Against}
 use Rattle.begins.specs.Known.{Below}
@@ -73,21 +72,21 @@ means_formed book cert w (Claimed at i j f) m end x = instance_formed x
 
 -- ---- the first side
 
-pub sided_empty : (book cert w : List ℕ) → Sided book cert Empty w w (Done 0 0)
+pub sided_empty : (book cert w : List ℕ) → Sided book cert Empty w w (Some (record { nodes = 0; end = 0 }))
 unfolding Means Stored FewNodes
 sided_empty book cert w = record {
-  told = λ m end x. subst (λ k. Stored FIRST k end w (Done 0 0)) (sym x.0) (built_empty FIRST w, sym x.1);
+  told = λ m end x. subst (λ k. Stored FIRST k end w (Some (record { nodes = 0; end = 0 }))) (sym x.0) (built_empty FIRST w, sym x.1);
   few = omega arith;
   kept = kept_self FIRST SIDE w;
 }
 
-stored_instance : {book s cert w after : List ℕ} {at i j fills : ℕ} {r : Side} → Builds book s cert FIRST at i j fills w after r
+stored_instance : {book s cert w after : List ℕ} {at i j fills : ℕ} {r : Option Side} → Builds book s cert FIRST at i j fills w after r
     → (m : Mark Exp) (end : ℕ) → InstanceAt book s cert w at i j fills m end → Stored FIRST m end after r
 stored_instance {after = after} {at = at} {r = r} b m end x =
     subst (λ e. Stored FIRST m e after r) (sym x.ends)
     (subst (λ k. Stored FIRST k (behind at x.term) after r) (sym x.mark) (b.told x.term x.filling x.lies x.filled))
 
-module _ {book cert w after : List ℕ} {at : ℕ} {r : Side} where
+module _ {book cert w after : List ℕ} {at : ℕ} {r : Option Side} where
   pub sided_call : Builds book book cert FIRST at 1 0 OWN w after r → Sided book cert (Call at) w after r
   unfolding Means
   sided_call b = record { told = stored_instance b; few = b.few; kept = b.kept }
@@ -99,7 +98,7 @@ module _ {book cert w after : List ℕ} {at : ℕ} {r : Side} where
       let here = subst (λ k. Builds book cert cert FIRST at i j k w after r) e b in
       record { told = stored_instance here; few = here.few; kept = here.kept }
 
-pub sided_as : {book cert w after : List ℕ} {a b : Subject} {r : Side} → a ≡ b → Sided book cert b w after r → Sided book cert a w after r
+pub sided_as : {book cert w after : List ℕ} {a b : Subject} {r : Option Side} → a ≡ b → Sided book cert b w after r → Sided book cert a w after r
 sided_as {book} {cert} {w} {after} {r = r} e s = subst (λ x. Sided book cert x w after r) (sym e) s
 
 -- ---- the second side
@@ -128,30 +127,30 @@ seconded_as {book} {cert} {w} {n} {r = r} e s = subst (λ x. Seconded book cert 
 
 -- ---- two sides compared
 
-stored_done : (end : ℕ) (m : Mark Exp) (after : List ℕ) {n e : ℕ} {r : Side} → Stored FIRST m end after r → r ≡ Done n e
-    → Built FIRST m after (Count n) × (e ≡ end)
+stored_done : (end : ℕ) (m : Mark Exp) (after : List ℕ) {side-built : Side} {r : Option Side} → Stored FIRST m end after r → r ≡ Some side-built
+    → Built FIRST m after (Some side-built.nodes) × (side-built.end ≡ end)
 unfolding Stored
 stored_done end m after s q = rw q at s
 
-stored_full : (end : ℕ) (m : Mark Exp) (after : List ℕ) {r : Side} → Stored FIRST m end after r → r ≡ Full → Built FIRST m after NoRoom
+stored_full : (end : ℕ) (m : Mark Exp) (after : List ℕ) {r : Option Side} → Stored FIRST m end after r → r ≡ None → Built FIRST m after None
 unfolding Stored
 stored_full end m after s q = rw q at s
 
-module _ {book cert w v : List ℕ} {a : Subject} {r : Side} (first : Sided book cert a w v r) where
-  pub first_full : {b : Subject} → r ≡ Full → Compares book cert a b w v TooBig
+module _ {book cert w v : List ℕ} {a : Subject} {r : Option Side} (first : Sided book cert a w v r) where
+  pub first_full : {b : Subject} → r ≡ None → Compares book cert a b w v TooBig
   unfolding Settles
   first_full q = record {
     told = λ m e x k f y. λ h. built_large FIRST m v (stored_full e m v (first.told m e x) q) h.0;
     below = kept_below first.kept;
   }
 
-  module _ {n e : ℕ} (p : r ≡ Done n e) where
+  module _ {n e : ℕ} (p : r ≡ Some (record { nodes = n; end = e })) where
     pub second_room : WORDS ≤ length w → Room FIRST n v
     second_room h = record { within = omega (arith, first.kept.size); few = few_done first.few p }
 
     module _ {b : Subject} {o : Outcome} (second : Seconded book cert n b v o) where
       -- the first side as it was stored, and what the second amounts to beside it
-      one : (c : Mark Exp) (end : ℕ) → Means book cert w a c end → Built FIRST c v (Count n) × (e ≡ end)
+      one : (c : Mark Exp) (end : ℕ) → Means book cert w a c end → Built FIRST c v (Some n) × (e ≡ end)
       one c end x = stored_done end c v (first.told c end x) p
 
       two : (d : Mark Exp) (end : ℕ) → Means book cert w b d end → Amounts (side v FIRST n) (form_nodes d) o

@@ -5,7 +5,6 @@ use Rattle.patterns.specs.First.{Exp}
 use Rattle.patterns.specs.Demand.{present, level}
 use Rattle.patterns.specs.Judge.{Check, check, compare}
 use Rattle.table.specs.Places.{FIRST}
-use Rattle.comparing.specs.declared.Found.{Found}
 use Rattle.comparing.specs.declared.Whole.{Whole}
 use Rattle.comparing.specs.declared.Whole.TheVariants.{Unfold, Descent, Closing}
 use Rattle.comparing.specs.declared.Behind.{Behind}
@@ -16,7 +15,7 @@ use Rattle.begins.specs.Placed.{RightAt}
 use Rattle.instances.specs.Lying.{KnownArities}
 use Rattle.begins.specs.Known.{Below}
 use Rattle.comparing.specs.Subjects.{Means}
-use Rattle.comparing.specs.Found.{Finds}
+use Rattle.comparing.specs.Found.{Found, Finds}
 use Rattle.comparing.specs.Rights.{lead}
 
 unfoldable pub asked_at : Whole → ℕ → Asked

@@ -6,12 +6,11 @@ use Rattle.patterns.specs.First.{Exp}
 use Rattle.patterns.specs.Demand.{empty, present, level}
 use Rattle.patterns.specs.Judge.{Check, check}
 use Rattle.table.specs.Answer.{Says}
-use Rattle.comparing.specs.declared.Found.{Found}
 use Rattle.comparing.specs.declared.Behind.{Behind}
 use Rattle.comparing.specs.declared.Behind.TheVariants.{Judged, Pending, Nothing}
 use Rattle.begins.specs.Placed.{RightAt}
 use Rattle.instances.specs.Lying.{KnownArities}
-use Rattle.comparing.specs.Found.{Finds}
+use Rattle.comparing.specs.Found.{Found, Finds}
 
 -- the answer is whether the right at a bit is the empty mark
 pub record EmptyRight (cert : List ℕ) (at : ℕ) (r : Bool) : Type 0 where

@@ -1,6 +1,6 @@
 -- What is built for a comparison: the empty mark, a head or call of a rule filled by the line's own filling, or a term of the certificate
 -- reindexed, and filled by nothing or by a use's filling.
-use Rattle.std.specs.Prelude.{ℕ, ◌≡◌, List, []}
+use Rattle.std.specs.Prelude.{ℕ, ◌≡◌, Option, List, []}
 use Rattle.std.proofs.Math.Option.{none, some, map}
 use Rattle.patterns.specs.Term.{Filling, fill}
 use Rattle.patterns.specs.Edition.{reindex}
@@ -47,7 +47,7 @@ Means book cert w (Call at) m end = InstanceAt book book cert w at 1 0 OWN m end
 Means book cert w (Claimed at i j f) m end = InstanceAt book cert cert w at i j (fills_of f) m end
 
 -- the first side was built
-pub record Sided (book cert : List ℕ) (a : Subject) (w after : List ℕ) (r : Side) : Type 0 where
+pub record Sided (book cert : List ℕ) (a : Subject) (w after : List ℕ) (r : Option Side) : Type 0 where
   pub told : (m : Mark Exp) (end : ℕ) → Means book cert w a m end → Stored FIRST m end after r
   pub few : FewNodes r
   pub kept : Kept FIRST SIDE w after

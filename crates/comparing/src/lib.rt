@@ -33,6 +33,7 @@ pub enum Subject {
 }
 
 // What a comparison comes to: equal, with the bit behind the first side's term; not equal; or a side has more than 1,024 nodes.
+// Three answers that are alike, each with a number of its own in `sides::equal`: a Result of an Option would say no more.
 #[derive(Clone, Copy)]
 pub enum Compared {
     Equal(usize),
@@ -40,12 +41,16 @@ pub enum Compared {
     TooBig,
 }
 
-// What some checks come to: the number and the part of the first that is not met; or all are met, and a bit where the next begin.
+// The first of some checks that is not met: its number and its part. The number is the one that 01's table of refusals gives to the
+// check, and a refusal tells it to the caller, so no enum stands for it.
 #[derive(Clone, Copy)]
-pub enum Found {
-    Fault { number: u16, part: usize },
-    Good(usize),
+pub struct Fault {
+    pub number: u16,
+    pub part: usize,
 }
+
+// What some checks come to: all are met, and a bit where the next begin; or the first that is not.
+pub type Found = Result<usize, Fault>;
 
 // The whole whose part a check is.
 #[derive(Clone, Copy)]
@@ -78,15 +83,15 @@ pub fn claimed_right(certificate: &[u8], at: usize, i: u16, j: u16, filled: Fill
     ensures { RightMeans certificate.now at i j filled result }
 {
     let any = field(certificate, 1, at);
-    let term = any.at;
     if any.value == 0 {
-        return Subject::Empty;
-    }
-    Subject::Claimed {
-        at: term,
-        i,
-        j,
-        filled,
+        Subject::Empty
+    } else {
+        Subject::Claimed {
+            at: any.at,
+            i,
+            j,
+            filled,
+        }
     }
 }
 
@@ -106,10 +111,8 @@ fn led_equal(
     requires { WORDS ≤ length w.old }
     ensures { LedEquals book.now certificate.now before number part right behind a b w.old w.new result }
 {
-    match rights::led(certificate, before, part, right, behind) {
-        Found::Fault { number: n, part: p } => Found::Fault { number: n, part: p },
-        Found::Good(_) => sides::equal(book, certificate, w, number, part, a, b),
-    }
+    rights::led(certificate, before, part, right, behind)?;
+    sides::equal(book, certificate, w, number, part, a, b)
 }
 
 // What is asked at each part of each whole.

@@ -1,15 +1,14 @@
 // What is asked of a right: that it is the empty mark, that it is not, that it is the same at every index.
 ghost use Rattle.comparing.specs.Rights.{EmptyRight, Looks, LooksLevel};
 
-use crate::{Behind, Found};
+use crate::{Behind, Fault, Found};
 use instances::field;
 
 // Whether the right at a bit is the empty mark.
 fn is_empty(certificate: &[u8], right: usize) -> bool
     ensures { EmptyRight certificate.now right result }
 {
-    let any = field(certificate, 1, right);
-    any.value == 0
+    field(certificate, 1, right).value == 0
 }
 
 // A right is the empty mark, else a number.
@@ -17,9 +16,10 @@ fn spent(certificate: &[u8], number: u16, part: usize, right: usize) -> Found
     ensures { Looks certificate.now right Behind.Judged number part result }
 {
     if is_empty(certificate, right) {
-        return Found::Good(0);
+        Ok(0)
+    } else {
+        Err(Fault { number, part })
     }
-    Found::Fault { number, part }
 }
 
 // A right is not the empty mark, else a number.
@@ -27,9 +27,10 @@ pub fn present(certificate: &[u8], number: u16, part: usize, right: usize) -> Fo
     ensures { Looks certificate.now right Behind.Pending number part result }
 {
     if is_empty(certificate, right) {
-        return Found::Fault { number, part };
+        Err(Fault { number, part })
+    } else {
+        Ok(0)
     }
-    Found::Good(0)
 }
 
 // The right of a use is what the calls behind it ask for, else a number.
@@ -39,7 +40,7 @@ pub fn led(certificate: &[u8], number: u16, part: usize, right: usize, behind: B
     match behind {
         Behind::Judged => spent(certificate, number, part, right),
         Behind::Pending => present(certificate, number, part, right),
-        Behind::Nothing => Found::Good(0),
+        Behind::Nothing => Ok(0),
     }
 }
 
@@ -48,12 +49,9 @@ pub fn level(book: &[u8], certificate: &[u8], number: u16, part: usize, right: u
     ensures { LooksLevel book.now certificate.now right number part result }
 {
     let any = field(certificate, 1, right);
-    let term = any.at;
-    if any.value == 0 {
-        return Found::Good(0);
+    if any.value == 0 || instances::level(book, certificate, any.at) {
+        Ok(0)
+    } else {
+        Err(Fault { number, part })
     }
-    if instances::level(book, certificate, term) {
-        return Found::Good(0);
-    }
-    Found::Fault { number, part }
 }

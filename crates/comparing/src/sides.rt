@@ -5,7 +5,7 @@ ghost use Rattle.table.specs.Sides.{Room};
 ghost use Rattle.comparing.specs.Subjects.{fills_of, Sided, AmountsEmpty, Seconded, Compares};
 ghost use Rattle.comparing.specs.Asked.{Equals};
 
-use crate::{Compared, Filled, Found, Subject};
+use crate::{Compared, Fault, Filled, Found, Subject};
 use instances::{Side, second};
 use table::{EMPTY, FIRST, OWN, Outcome, USED};
 
@@ -19,13 +19,13 @@ fn fills_of(filled: Filled) -> usize
     }
 }
 
-// The first side of a comparison.
-fn first_side(book: &[u8], certificate: &[u8], w: &mut [u64], a: Subject) -> Side
+// The first side of a comparison, unless it has more than 1,024 nodes.
+fn first_side(book: &[u8], certificate: &[u8], w: &mut [u64], a: Subject) -> Option<Side>
     requires { WORDS ≤ length w.old }
     ensures { Sided book.now certificate.now a w.old w.new result }
 {
     match a {
-        Subject::Empty => Side::Done { nodes: 0, end: 0 },
+        Subject::Empty => Some(Side { nodes: 0, end: 0 }),
         Subject::Call(at) => instances::build(book, book, certificate, w, FIRST, at, 1, 0, OWN),
         Subject::Claimed { at, i, j, filled } => instances::build(
             book,
@@ -90,7 +90,7 @@ fn compare(book: &[u8], certificate: &[u8], w: &mut [u64], a: Subject, b: Subjec
     requires { WORDS ≤ length w.old }
     ensures { Compares book.now certificate.now a b w.old w.new result }
 {
-    let Side::Done { nodes: n, end } = first_side(book, certificate, w, a) else {
+    let Some(Side { nodes: n, end }) = first_side(book, certificate, w, a) else {
         return Compared::TooBig;
     };
     match second_side(book, certificate, w, n, b) {
@@ -114,8 +114,8 @@ pub fn equal(
     ensures { Equals book.now certificate.now number part a b w.old w.new result }
 {
     match compare(book, certificate, w, a, b) {
-        Compared::TooBig => Found::Fault { number: 16, part },
-        Compared::Unequal => Found::Fault { number, part },
-        Compared::Equal(end) => Found::Good(end),
+        Compared::TooBig => Err(Fault { number: 16, part }),
+        Compared::Unequal => Err(Fault { number, part }),
+        Compared::Equal(end) => Ok(end),
     }
 }

@@ -4,7 +4,7 @@ use mathlib.Core.Path.{◌≡◌, refl, sym, ◌∙◌, ap, subst}
 use mathlib.Core.List.{List}
 use native.Mathlib.Omega.{arith}
 use lib.ListN.{get_or}
-use Rattle.std.specs.Prelude.{Result, Ok, Err, Bool, true, false, cond, ltb}
+use Rattle.std.specs.Prelude.{Option, Some, None, Result, Ok, Err, ok_or, Bool, true, false, cond, ltb}
 use Rattle.answers.specs.Carried.{refusal_at}
 use Rattle.answers.specs.Numbers.{Reply, denied, paper_refusal, paper_pace, paper_verdict, paper_coverage}
 use Rattle.answers.specs.declared.Refusal.{Refusal}
@@ -33,8 +33,6 @@ use Rattle.verdicts.specs.Demands.{Acceptable}
 use Rattle.verdicts.proofs.Demands.{book_opens, certificate_opens, accepts_exactly_when}
 use Rattle.verdicts.proofs.Layers.{table_enough}
 use Rattle.judging.proofs.Opened.{lies_opened, book_lies, book_arities}
-use Rattle.matching.specs.declared.Index.{Index}
-use Rattle.matching.specs.declared.Index.TheVariants.{At, Nowhere}
 use Rattle.matching.specs.Matching.{index_found, Searches}
 use Rattle.covers.specs.Asking.{not_covered, told_index, asking_accepted, asking_judged, asking}
 use Rattle.covers.specs.Stages.{Ready, AsksCall}
@@ -44,13 +42,10 @@ use Rattle.covers.proofs.Exactly.{named_claim}
 
 -- ---- the index found
 
-pub at_told : {s : Index} {i : ℕ} → s ≡ At i → paper_coverage (Ok i) ≡ told_index (index_found s)
+pub found_told : (q : Refusal) → paper_refusal q ≡ not_covered → (s : Option ℕ) → paper_coverage (ok_or s q) ≡ told_index (index_found s)
 unfolding paper_coverage told_index index_found
-at_told e = rw e
-
-pub nowhere_told : {s : Index} (q : Refusal) → s ≡ Nowhere → paper_refusal q ≡ not_covered → paper_coverage (Err q) ≡ told_index (index_found s)
-unfolding told_index index_found
-nowhere_told q e f = refused_coverage q f ∙ rw e
+found_told q e (Some i) = refl
+found_told q e None = refused_coverage q e
 
 -- ---- the call
 
@@ -76,7 +71,7 @@ module _ {book certificate call : List ℕ} {at α : ℕ} {o : Opening} (C : Cal
     told = λ b fs h t l. let s = opening_shut nothing (open_call b call) (C.told b fs h) e in rw s;
   }
 
-  pub call_searched : {v n k : ℕ} {w after : List ℕ} {s : Index} {r : Result ℕ Refusal} → o ≡ Ok (record { value = v; fields = n; bits = k })
+  pub call_searched : {v n k : ℕ} {w after : List ℕ} {s : Option ℕ} {r : Result ℕ Refusal} → o ≡ Ok (record { value = v; fields = n; bits = k })
       → Searches book certificate call at α w after s → paper_coverage r ≡ told_index (index_found s)
       → AsksCall book certificate call at α r
   call_searched e S q = record {

@@ -12,17 +12,13 @@ ghost use Rattle.covers.specs.Told.{CoverTold};
 
 use answers::{Acceptance, Coverage, W};
 use layout::Opening;
-use matching::Index;
 use table::LEFTS;
 
 // The index that was found; 17 where there is none.
-fn index_told(found: Index) -> Coverage
+fn index_told(found: Option<usize>) -> Coverage
     ensures { paper_coverage result ≡ told_index (index_found found) }
 {
-    match found {
-        Index::At(i) => Ok(i),
-        Index::Nowhere => Err(answers::whole(17, W::Neither)),
-    }
+    found.ok_or(answers::whole(17, W::Neither))
 }
 
 // The call beside its good book: read to its end, then looked for in the family of the pattern at a bit of the certificate.

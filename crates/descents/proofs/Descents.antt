@@ -1,4 +1,5 @@
 -- The parts of a descent, from its base to its level right.
+use Rattle.std.proofs.Common.{Ok, Err}
 use Prim.Native.Nat.{ℕ}
 use mathlib.Core.Path.{◌≡◌, refl, sym, subst, ap, ◌∙◌}
 use mathlib.Core.List.{List, [], ◌∷◌, flat_map, append-nil}
@@ -19,8 +20,7 @@ use Rattle.patterns.specs.Judge.{check, compare, sole, line_checks}
 use Rattle.grammar.specs.Listing.{term_fields, use_fields, kind_fields, filling_fields}
 use Rattle.grammar.specs.Limits.{RootFits, KindFits, call_counts}
 use Rattle.instances.specs.declared.Read.{Read}
-use Rattle.comparing.specs.declared.Found.{Found}
-use Rattle.comparing.specs.declared.Found.TheVariants.{Fault, Good}
+use Rattle.comparing.specs.declared.Fault.{Fault}
 use Rattle.comparing.specs.declared.Whole.TheVariants.{Descent}
 use Rattle.begins.specs.declared.Instance.{Instance}
 use Rattle.comparing.specs.declared.Subject.{Subject}
@@ -33,9 +33,9 @@ use Rattle.begins.specs.Placed.{RightAt, RuleAt}
 use Rattle.instances.specs.Taking.{Takes}
 use Rattle.begins.specs.Known.{Below, ReadsUse}
 use Rattle.comparing.specs.Subjects.{Means, RightMeans}
-use Rattle.comparing.specs.Found.{Finds}
+use Rattle.comparing.specs.Found.{Found, Finds}
 use Rattle.comparing.specs.Asked.{asked_at, checks_of, end_of, Checks}
-use Rattle.descents.specs.Descents.{Descending, base_checks, DescentBase, HeadAt, DescentHead, DescentCall, LevelRight, DescentBy, DescentOn, DescentAt}
+use Rattle.descents.specs.Descents.{Descending, base_checks, head_checks, call_checks, DescentBy, DescentOn, DescentAt}
 use Rattle.instances.proofs.Lying.{lies_front, lies_back}
 use Rattle.instances.proofs.Taking.{rest_at}
 use Rattle.begins.proofs.Frames.{below_then, below_less, kept_below, known_below, scene_below, uses_below, tells_above}
@@ -44,6 +44,40 @@ use Rattle.comparing.proofs.Finding.{finds_fault, finds_last, finds_stop, finds_
 use Rattle.patterns.proofs.Every.{below_listed, map_listed}
 use Rattle.table.specs.Places.{OWN, FIRST}
 use Rattle.begins.proofs.Calling.{head_lies, calls_at}
+
+-- ---- what is found of the first parts
+
+-- of parts 0 and 1
+pub record DescentBase (book cert : List ℕ) (left right : ℕ) (base : Instance) (w after : List ℕ) (r : Found) : Type 0 where
+  pub told : (ars : List ℕ) (B : Book Exp) (es : List (Claim Exp)) (θ : Fills Exp) (l : Claim Exp) (u : Use Exp Pair) (c : Claim Exp)
+      → Descending book cert w ars B es θ left right l u c base → (e : ℕ) × Finds (base_checks u c l) e r
+  pub below : Below FIRST w after
+
+-- a rule's head lies at a bit of the book, with its only call behind it
+pub record HeadAt (book ars : List ℕ) (at : ℕ) (h v : Pattern) : Type 0 where
+  pub head : Lies book at (term_fields h)
+  pub head_fits : RootFits ars h
+  pub call : Lies book (behind at h) (term_fields v)
+  pub call_fits : RootFits ars v
+
+-- of parts 0 to 2
+pub record DescentHead (book cert : List ℕ) (left right : ℕ) (base : Instance) (head : ℕ) (w after : List ℕ) (r : Found) : Type 0 where
+  pub told : (ars : List ℕ) (B : Book Exp) (es : List (Claim Exp)) (θ : Fills Exp) (l : Claim Exp) (u : Use Exp Pair) (c : Claim Exp)
+      → Descending book cert w ars B es θ left right l u c base → (h v : Pattern) → HeadAt book ars head h v
+      → Finds (head_checks u c l θ h) (behind head h) r
+  pub below : Below FIRST w after
+
+-- of parts 0 to 3
+pub record DescentCall (book cert : List ℕ) (left right : ℕ) (base : Instance) (head : ℕ) (w after : List ℕ) (r : Found) : Type 0 where
+  pub told : (ars : List ℕ) (B : Book Exp) (es : List (Claim Exp)) (θ : Fills Exp) (l : Claim Exp) (u : Use Exp Pair) (c : Claim Exp)
+      → Descending book cert w ars B es θ left right l u c base → (h v : Pattern) → HeadAt book ars head h v
+      → (e : ℕ) × Finds (call_checks u c l θ h v) e r
+  pub below : Below FIRST w after
+
+-- 01, part 4: "right is empty or has a = 0 in every power"
+pub record LevelRight (book cert : List ℕ) (right at : ℕ) (w after : List ℕ) (r : Found) : Type 0 where
+  pub told : (ars : List ℕ) → KnownArities book ars → (m : Mark Exp) → RightAt cert ars right m → Finds (check 13 4 (level m) ∷ []) at r
+  pub below : Below FIRST w after
 
 -- ---- the parts of a descent
 
@@ -54,10 +88,10 @@ module _ {book cert w v : List ℕ} {left right : ℕ} {base : Instance} {r : Fo
   unfolding asked_at checks_of end_of
   first_found {ars} D = first.told ars D.scene.known.arity _ D.right_at _ _ (used_means D.scene.known D.base_at) _ _ (left_means 0 0 D.scene.known D.left_at)
 
-  pub base_fault : {n p : ℕ} → r ≡ Fault n p → DescentBase book cert left right base w v (Fault n p)
+  pub base_fault : {f : Fault} → r ≡ Err f → DescentBase book cert left right base w v (Err f)
   base_fault q = record { told = λ ars B es θ l u c D. (0, finds_stop _ (first_found D) q); below = first.below }
 
-  pub base_on : {x : ℕ} {theirs own : Subject} {after : List ℕ} {s : Found} → r ≡ Good x → RightMeans cert base.right base.i base.j Used theirs
+  pub base_on : {x : ℕ} {theirs own : Subject} {after : List ℕ} {s : Found} → r ≡ Ok x → RightMeans cert base.right base.i base.j Used theirs
       → RightMeans cert right 0 0 Bare own → Checks book cert Descent 1 right Nothing theirs own v after s → DescentBase book cert left right base w after s
   unfolding asked_at checks_of end_of
   base_on {x} {theirs} {own} {after} {s} q t o second = record { told = go; below = below_then first.below second.below }
@@ -80,10 +114,10 @@ descending_below b D = record {
 }
 
 module _ {book cert w v : List ℕ} {left right : ℕ} {base : Instance} {head : ℕ} {r : Found} where
-  pub head_fault : {n p : ℕ} → DescentBase book cert left right base w v r → r ≡ Fault n p → DescentHead book cert left right base head w v (Fault n p)
+  pub head_fault : {f : Fault} → DescentBase book cert left right base w v r → r ≡ Err f → DescentHead book cert left right base head w v (Err f)
   head_fault d q = record { told = λ ars B es θ l u c D h t H. finds_stop _ (d.told ars B es θ l u c D).1 q; below = d.below }
 
-  pub head_on : {x : ℕ} {after : List ℕ} {s : Found} → DescentBase book cert left right base w v r → r ≡ Good x
+  pub head_on : {x : ℕ} {after : List ℕ} {s : Found} → DescentBase book cert left right base w v r → r ≡ Ok x
       → Checks book cert Descent 2 right Nothing (Call head) (Claimed left 1 1 Bare) v after s → DescentHead book cert left right base head w after s
   unfolding asked_at checks_of end_of
   head_on d q third = record {
@@ -94,10 +128,10 @@ module _ {book cert w v : List ℕ} {left right : ℕ} {base : Instance} {head :
     below = below_then d.below third.below;
   }
 
-  pub call_fault : {n p : ℕ} → DescentHead book cert left right base head w v r → r ≡ Fault n p → DescentCall book cert left right base head w v (Fault n p)
+  pub call_fault : {f : Fault} → DescentHead book cert left right base head w v r → r ≡ Err f → DescentCall book cert left right base head w v (Err f)
   call_fault d q = record { told = λ ars B es θ l u c D h t H. (0, finds_stop _ (d.told ars B es θ l u c D h t H) q); below = d.below }
 
-  pub call_on : {x : ℕ} {after : List ℕ} {s : Found} → DescentHead book cert left right base head w v r → r ≡ Good x
+  pub call_on : {x : ℕ} {after : List ℕ} {s : Found} → DescentHead book cert left right base head w v r → r ≡ Ok x
       → Checks book cert Descent 3 right Nothing (Call x) (Claimed left 1 0 Bare) v after s → DescentCall book cert left right base head w after s
   unfolding asked_at checks_of end_of
   call_on {x} d q fourth = record {
@@ -118,10 +152,10 @@ module _ {book cert w after : List ℕ} {right : ℕ} {r : Found} (c : Checks bo
   unfolding asked_at checks_of end_of Means
   level_found ars k m a = c.told ars k m a none 0 (refl, refl) none 0 (refl, refl)
 
-  pub level_fault : {at n p : ℕ} → r ≡ Fault n p → LevelRight book cert right at w after (Fault n p)
+  pub level_fault : {at : ℕ} {f : Fault} → r ≡ Err f → LevelRight book cert right at w after (Err f)
   level_fault q = record { told = λ ars k m a. finds_fault (level_found ars k m a) q; below = c.below }
 
-  pub level_good : {at x : ℕ} → r ≡ Good x → LevelRight book cert right at w after (Good at)
+  pub level_good : {at x : ℕ} → r ≡ Ok x → LevelRight book cert right at w after (Ok at)
   level_good q = record { told = λ ars k m a. finds_last (level_found ars k m a) q; below = c.below }
 
 -- ---- all parts
@@ -136,13 +170,13 @@ module _ {book cert w v : List ℕ} {left right rule : ℕ} {base : Instance} {c
       let fits : Every (RootFits ars) (p ∷ []) = subst (Every (RootFits ars)) e C.fits in
       record { head = head_lies t R; head_fits = R.fits.head; call = one_call; call_fits = fits.0 }
 
-  pub by_fault : {at n p : ℕ} → r ≡ Fault n p → DescentBy book cert left right base rule at w v (Fault n p)
+  pub by_fault : {at : ℕ} {f : Fault} → r ≡ Err f → DescentBy book cert left right base rule at w v (Err f)
   by_fault q = record {
     told = λ ars B es θ l u b D h p R e. finds_stop _ (d.told ars B es θ l u b D h.head p (head_at R e)).1 q;
     below = d.below;
   }
 
-  pub by_on : {at x : ℕ} {after : List ℕ} {s : Found} → r ≡ Good x → LevelRight book cert right at v after s
+  pub by_on : {at x : ℕ} {after : List ℕ} {s : Found} → r ≡ Ok x → LevelRight book cert right at v after s
       → DescentBy book cert left right base rule at w after s
   by_on q l = record {
     told = λ ars B es θ k u b D h p R e.

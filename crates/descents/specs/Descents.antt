@@ -7,19 +7,18 @@ use Rattle.patterns.specs.Term.{fill}
 use Rattle.patterns.specs.First.{Exp, Pattern, Pair, one}
 use Rattle.patterns.specs.Edition.{reindex}
 use Rattle.patterns.specs.Derive.{Rule, Book}
-use Rattle.patterns.specs.Certificate.{Fills, by, Claim, Mark, Use, descends}
+use Rattle.patterns.specs.Certificate.{Fills, by, Claim, Use, descends}
 use Rattle.patterns.specs.Checks.{instance, instance_mark, reindex_mark}
 use Rattle.patterns.specs.Demand.{level}
 use Rattle.patterns.specs.Judge.{Check, check, compare, line_checks}
-use Rattle.grammar.specs.Listing.{term_fields, kind_fields, filling_fields}
-use Rattle.grammar.specs.Limits.{RootFits, FillsFit, KindFits, call_counts}
+use Rattle.grammar.specs.Listing.{kind_fields, filling_fields}
+use Rattle.grammar.specs.Limits.{FillsFit, KindFits, call_counts}
 use Rattle.table.specs.Places.{OWN, FIRST}
-use Rattle.comparing.specs.declared.Found.{Found}
 use Rattle.begins.specs.declared.Instance.{Instance}
-use Rattle.instances.specs.Lying.{Lies, behind, KnownArities}
+use Rattle.instances.specs.Lying.{Lies}
 use Rattle.begins.specs.Placed.{RightAt, LeftAt, RuleAt}
 use Rattle.begins.specs.Known.{Below, Known, Scene, Uses}
-use Rattle.comparing.specs.Found.{Finds}
+use Rattle.comparing.specs.Found.{Found, Finds}
 
 -- what a descent's parts are judged over: the table, both sides of the line, and its base, which was read
 pub record Descending (book cert w ars : List ℕ) (B : Book Exp) (es : List (Claim Exp)) (θ : Fills Exp) (left right : ℕ) (l : Claim Exp) (u : Use Exp Pair) (c : Claim Exp) (base : Instance) : Type 0 where
@@ -43,35 +42,7 @@ call_checks u c l θ h v = head_checks u c l θ h ++ compare 10 3 (some (fill (b
 abbrev pub descent_checks : Use Exp Pair → Claim Exp → Claim Exp → Fills Exp → Pattern → Pattern → List (Check Exp)
 descent_checks u c l θ h v = call_checks u c l θ h v ++ (check 13 4 (level l.right) ∷ [])
 
-pub record DescentBase (book cert : List ℕ) (left right : ℕ) (base : Instance) (w after : List ℕ) (r : Found) : Type 0 where
-  pub told : (ars : List ℕ) (B : Book Exp) (es : List (Claim Exp)) (θ : Fills Exp) (l : Claim Exp) (u : Use Exp Pair) (c : Claim Exp)
-      → Descending book cert w ars B es θ left right l u c base → (e : ℕ) × Finds (base_checks u c l) e r
-  pub below : Below FIRST w after
-
--- a rule's head lies at a bit of the book, with its only call behind it
-pub record HeadAt (book ars : List ℕ) (at : ℕ) (h v : Pattern) : Type 0 where
-  pub head : Lies book at (term_fields h)
-  pub head_fits : RootFits ars h
-  pub call : Lies book (behind at h) (term_fields v)
-  pub call_fits : RootFits ars v
-
-pub record DescentHead (book cert : List ℕ) (left right : ℕ) (base : Instance) (head : ℕ) (w after : List ℕ) (r : Found) : Type 0 where
-  pub told : (ars : List ℕ) (B : Book Exp) (es : List (Claim Exp)) (θ : Fills Exp) (l : Claim Exp) (u : Use Exp Pair) (c : Claim Exp)
-      → Descending book cert w ars B es θ left right l u c base → (h v : Pattern) → HeadAt book ars head h v
-      → Finds (head_checks u c l θ h) (behind head h) r
-  pub below : Below FIRST w after
-
-pub record DescentCall (book cert : List ℕ) (left right : ℕ) (base : Instance) (head : ℕ) (w after : List ℕ) (r : Found) : Type 0 where
-  pub told : (ars : List ℕ) (B : Book Exp) (es : List (Claim Exp)) (θ : Fills Exp) (l : Claim Exp) (u : Use Exp Pair) (c : Claim Exp)
-      → Descending book cert w ars B es θ left right l u c base → (h v : Pattern) → HeadAt book ars head h v
-      → (e : ℕ) × Finds (call_checks u c l θ h v) e r
-  pub below : Below FIRST w after
-
--- 01, part 4: "right is empty or has a = 0 in every power"
-pub record LevelRight (book cert : List ℕ) (right at : ℕ) (w after : List ℕ) (r : Found) : Type 0 where
-  pub told : (ars : List ℕ) → KnownArities book ars → (m : Mark Exp) → RightAt cert ars right m → Finds (check 13 4 (level m) ∷ []) at r
-  pub below : Below FIRST w after
-
+-- all parts, over a base that was read, by a rule that lies at a bit of the book
 pub record DescentBy (book cert : List ℕ) (left right : ℕ) (base : Instance) (rule at : ℕ) (w after : List ℕ) (r : Found) : Type 0 where
   pub told : (ars : List ℕ) (B : Book Exp) (es : List (Claim Exp)) (θ : Fills Exp) (l : Claim Exp) (u : Use Exp Pair) (c : Claim Exp)
       → Descending book cert w ars B es θ left right l u c base → (h : Rule Exp) (v : Pattern) → RuleAt book ars rule h → h.calls ≡ v ∷ []

@@ -1,39 +1,67 @@
--- The 64 words of a filling cleared, one after the other.
-use Prim.Native.Nat.{ℕ, ◌+◌, ◌≤◌, ◌<◌}
-use mathlib.Core.Path.{◌≡◌, ◌∙◌}
-use mathlib.Core.List.{List}
-use native.Mathlib.Decide.{ℕ_discrete, dec_lt}
+-- The 64 words of a filling cleared.
+use Prim.Native.Nat.{ℕ, ◌+◌, ◌-◌, ◌≤◌, ◌<◌}
+use mathlib.Core.Path.{◌≡◌, ap, ◌∙◌}
+use mathlib.Core.List.{List, ◌++◌}
+use native.Mathlib.Decide.{dec_lt}
 use native.Mathlib.Omega.{arith}
-use lib.ListN.{length, set}
-use Rattle.table.specs.Sides.{Kept}
-use Rattle.table.proofs.Writes.{kept_self, kept_then}
+use borrow.Author.Tests.{lt-ltb}
+use borrow.Rule.Slice.PartMut.{put_mid}
+use lib.ListN.{length, get_or, take, drop, replicate, length-append, length-drop, length-replicate, get_or-replicate, get_or-append}
+use Rattle.std.proofs.lemmas.List.{get_or-append_right, get_or-take, get_or-drop, length-take-le}
 use Rattle.instances.specs.Fillings.{entry}
 use Rattle.instances.specs.Listings.{Forgets}
-use Rattle.instances.proofs.Entries.{entry_past, entry_here, entry_other, entry_kept}
+use Rattle.instances.proofs.Entries.{entry_past}
 
--- the variables below x have no term
-pub record Forgot (fills : ℕ) (w₀ w : List ℕ) (x : ℕ) : Type 0 where
-  pub within : x ≤ 64
-  pub kept : Kept fills 64 w₀ w
-  pub zeros : (y : ℕ) → y < x → entry w fills y ≡ 0
+-- a part of a list replaced by another that is as long
+module _ (w ys : List ℕ) (a k : ℕ) (room : a + k ≤ length w) (whole : length ys ≡ k) where
+  front : length (take a w) ≡ a
+  front = length-take-le a w (omega arith)
 
-pub forgot_none : (fills : ℕ) (w : List ℕ) → Forgot fills w w 0
-forgot_none fills w = record { within = omega arith; kept = kept_self fills 64 w; zeros = λ y h. absurd (omega arith) }
+  replaced_size : length (put_mid a k w ys) ≡ length w
+  replaced_size = omega
+      (arith, length-append (take a w) (ys ++ drop k (drop a w)), length-append ys (drop k (drop a w)), length-drop k (drop a w), length-drop a w, front)
 
-pub forgot_more : {fills : ℕ} {w₀ w : List ℕ} {x : ℕ} → fills + 64 ≤ length w₀ → x < 64 → Forgot fills w₀ w x → Forgot fills w₀ (set w (fills + x) 0) (x + 1)
-forgot_more {fills} {w₀} {w} {x} room h f = record {
-  within = omega arith;
-  kept = kept_then f.kept (entry_kept w fills x 0 h);
-  zeros = λ y l. go y l (ℕ_discrete y x);
+  replaced_low : (i : ℕ) → i < a → get_or (put_mid a k w ys) i 0 ≡ get_or w i 0
+  replaced_low i l = get_or-append (take a w) _ 0 i (omega (arith, front)) ∙ get_or-take a w i 0 l
+
+  replaced_here : (i : ℕ) → i < k → get_or (put_mid a k w ys) (a + i) 0 ≡ get_or ys i 0
+  replaced_here i l =
+      let down : a + i - a ≡ i = omega arith in
+      get_or-append_right (take a w) _ a (a + i) 0 front (omega arith)
+      ∙ ap (λ j. get_or (ys ++ drop k (drop a w)) j 0) down
+      ∙ get_or-append ys _ 0 i (omega (arith, whole))
+
+  replaced_high : (i : ℕ) → a + k ≤ i → get_or (put_mid a k w ys) i 0 ≡ get_or w i 0
+  replaced_high i l =
+      let back : a + (k + (i - a - k)) ≡ i = omega arith in
+      get_or-append_right (take a w) _ a i 0 front (omega arith)
+      ∙ get_or-append_right ys _ k (i - a) 0 whole (omega arith)
+      ∙ get_or-drop k (drop a w) (i - a - k) 0
+      ∙ get_or-drop a w (k + (i - a - k)) 0
+      ∙ ap (λ j. get_or w j 0) back
+
+-- where they became 0
+pub forgot : {w ys : List ℕ} (fills m : ℕ) → m ≡ 64 → fills + 64 ≤ length w → ys ≡ replicate (length (take m (drop fills w))) 0 → Forgets fills w (put_mid fills m w ys)
+unfolding entry
+forgot {w} {ys} fills m e room zeros = record {
+  none = λ x. go x (dec_lt x 64);
+  kept = record {
+    size = replaced_size w ys fills m fits all;
+    low = λ k l. replaced_low w ys fills m fits all k l;
+    high = λ k l. replaced_high w ys fills m fits all k (omega arith);
+  };
 }
   where
-    go : (y : ℕ) → y < x + 1 → Dec (y ≡ x) → entry (set w (fills + x) 0) fills y ≡ 0
-    go y l (yes p) = rw p (entry_here w fills x 0 h (omega (arith, f.kept.size)))
-    go y l (no p) = entry_other w fills x 0 h y p ∙ f.zeros y (omega arith)
+    fits : fills + m ≤ length w
+    fits = omega arith
 
-pub forgot_all : {fills : ℕ} {w₀ w : List ℕ} {x : ℕ} → 64 ≤ x → Forgot fills w₀ w x → Forgets fills w₀ w
-forgot_all {fills} {w₀} {w} {x} h f = record { none = λ y. go y (dec_lt y 64); kept = f.kept }
-  where
-    go : (y : ℕ) → Dec (y < 64) → entry w fills y ≡ 0
-    go y (yes p) = f.zeros y (omega arith)
-    go y (no p) = entry_past w fills y (omega arith)
+    many : length (take m (drop fills w)) ≡ m
+    many = length-take-le m (drop fills w) (omega (arith, length-drop fills w))
+
+    all : length ys ≡ m
+    all = ap length zeros ∙ length-replicate {A = ℕ} _ 0 ∙ many
+
+    go : (x : ℕ) → Dec (x < 64) → entry (put_mid fills m w ys) fills x ≡ 0
+    go x (yes l) = rw (lt-ltb x 64 l)
+        (replaced_here w ys fills m fits all x (omega arith) ∙ ap (λ s. get_or s x 0) zeros ∙ get_or-replicate _ x 0 0 (omega (arith, many)))
+    go x (no l) = entry_past _ fills x (omega arith)

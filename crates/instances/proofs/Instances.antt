@@ -15,21 +15,20 @@ use Rattle.table.specs.Places.{SIDE, NODES}
 use Rattle.table.specs.Nodes.{stack, load}
 use Rattle.table.specs.Sides.{Room, Kept, Stacked, Pushes}
 use Rattle.table.specs.Marks.{mark_nodes, form_nodes, Built}
-use Rattle.table.specs.declared.Pushed.{Pushed}
-use Rattle.table.specs.declared.Pushed.TheVariants.{Count, NoRoom}
+use Rattle.std.specs.Prelude.{Option, Some, None}
 use Rattle.table.proofs.Marks.{built_form}
 use Rattle.instances.specs.Lying.{TermAt}
 use Rattle.instances.specs.Fillings.{entry, Entry, unlisted, listed, FillsTold}
 use Rattle.instances.specs.Instances.{Stored, FewNodes, Builds}
-use Rattle.instances.specs.Walks.{single, Passage, Ended, walked}
+use Rattle.instances.specs.Walks.{single, Passage, walked}
+use Rattle.instances.specs.Turns.{Turns}
 use Rattle.instances.specs.Filled.{word_of, filled}
 use Rattle.instances.specs.Repeats.{Remembers}
 use Rattle.instances.specs.declared.Header.{Header}
 use Rattle.instances.specs.declared.Header.TheVariants.{Variable, Symbol, Power, Missing}
-use Rattle.instances.specs.declared.Stand.{Stand}
+use Rattle.instances.specs.declared.nodes.Walk.{Walk}
 use Rattle.instances.specs.declared.Spelt.{Spelt}
 use Rattle.instances.specs.declared.Side.{Side}
-use Rattle.instances.specs.declared.Side.TheVariants.{Done, Full}
 use Rattle.instances.proofs.Walks.{walked_term}
 use Rattle.instances.proofs.Entries.{entry_same}
 use Rattle.instances.proofs.Goings.{going_over}
@@ -69,7 +68,7 @@ filled_kept book cert w v fills base i j (Symbol f n c) h k = refl
 filled_kept book cert w v fills base i j (Power s a b c) h k = refl
 filled_kept book cert w v fills base i j Missing h k = refl
 
-pub step_filled : {base : ℕ} {w v : List ℕ} {r : Pushed} (book cert w₀ : List ℕ) (fills i j n : ℕ) (h : Header) → fills + 64 ≤ base → Kept base SIDE w₀ w
+pub step_filled : {base : ℕ} {w v : List ℕ} {r : Option ℕ} (book cert w₀ : List ℕ) (fills i j n : ℕ) (h : Header) → fills + 64 ≤ base → Kept base SIDE w₀ w
     → Pushes base n (flat_map (filled book cert w fills i j) (single h)) w v r
     → Pushes base n (flat_map (filled book cert w₀ fills i j) (single h)) w v r
 step_filled {base} {w} {v} {r} book cert w₀ fills i j n h below k t = took_as n (filled_kept book cert w₀ w fills base i j h below k) t
@@ -115,38 +114,38 @@ module _ (book cert w : List ℕ) (fills i j : ℕ) where
 
   module _ (s : List ℕ) (at base : ℕ) (v : List ℕ) where
     -- the side has the normal form
-    instance_built : (r : Pushed) → Pushes base 0 (whole s at) w v r → (t : Pattern) (θ : Filling Exp) → TermAt book s at t → FillsTold book cert w fills θ
+    instance_built : (r : Option ℕ) → Pushes base 0 (whole s at) w v r → (t : Pattern) (θ : Filling Exp) → TermAt book s at t → FillsTold book cert w fills θ
         → Built base (some (fill θ (reindex one (i, j) t))) v r
     instance_built r p t θ h F = built_form base w v r (some (fill θ (reindex one (i, j) t))) (whole s at) (instance_form s at t θ h F) p
 
-    finished : (n e : ℕ) (ns : List (Node Exp)) → walked book s at ≡ record { met = ns; end = e } → Pushes base 0 (whole s at) w v (Count n)
-        → Builds book s cert base at i j fills w v (Done n e)
+    finished : (n e : ℕ) (ns : List (Node Exp)) → walked book s at ≡ record { met = ns; end = e } → Pushes base 0 (whole s at) w v (Some n)
+        → Builds book s cert base at i j fills w v (Some (record { nodes = n; end = e }))
     unfolding Stored FewNodes Stacked
     finished n e ns q p = record {
-      told = λ t θ h F. (instance_built (Count n) p t θ h F, ap (λ (u : Passage). u.end) (sym q ∙ walked_term book s at t h));
+      told = λ t θ h F. (instance_built (Some n) p t θ h F, ap (λ (u : Passage). u.end) (sym q ∙ walked_term book s at t h));
       few = p.holds.0;
       kept = p.kept;
     }
 
-    pub built_over : {n left : ℕ} {p : Stand} → Pushing (filled book cert w fills i j) book s at base 0 w v n left p → Ended left p.pending
-        → Builds book s cert base at i j fills w v (Done n p.at)
-    built_over {n} {left} {p} g e = finished n p.at _ (going_over g e) (pushing_over _ book s at base 0 w v n left p g e)
+    pub built_over : {n : ℕ} {t u : Walk} → Pushing (filled book cert w fills i j) book s at base 0 w v n t → Turns t u None
+        → Builds book s cert base at i j fills w v (Some (record { nodes = n; end = u.stand.at }))
+    built_over {n} {t} {u} g turn = finished n u.stand.at _ (going_over g turn) (pushing_over _ book s at base 0 w v n t g turn)
 
     -- the next node fits
-    pub building_fits : (n left : ℕ) (p : Stand) {last : Spelt} → Pushing (filled book cert w fills i j) book s at base 0 w v n left p
+    pub building_fits : (n : ℕ) (t : Walk) {last : Spelt} → Pushing (filled book cert w fills i j) book s at base 0 w v n t
         → (base + SIDE ≤ length w) × (fills + 64 ≤ base) → i < 65536 → j < 65536 → Remembers book cert v base n last
         → Room base n v × ((load (stack v base n) ≤ 2 ^ 60) × (fills + 64 ≤ length v) × Remembers book cert v base n last)
-    building_fits n left p g before small-i small-j m =
-        let room = pushing_room _ book s at base 0 w v n left p g (record { within = before.0; few = omega arith }) in
-        let light = pushing_light _ book s at base 0 w v n left p g 0 (2 ^ 38) (no_load w base) (filled_light book cert w fills i j small-i small-j s at) in
+    building_fits n t g before small-i small-j m =
+        let room = pushing_room _ book s at base 0 w v n t g (record { within = before.0; few = omega arith }) in
+        let light = pushing_light _ book s at base 0 w v n t g 0 (2 ^ 38) (no_load w base) (filled_light book cert w fills i j small-i small-j s at) in
         (room, (omega arith, omega (arith, room.within, before.1), m))
 
-    pub built_full : Pushes base 0 (whole s at) w v NoRoom → Builds book s cert base at i j fills w v Full
+    pub built_full : {r : Option Side} → Pushes base 0 (whole s at) w v None → r ≡ None → Builds book s cert base at i j fills w v r
     unfolding Stored FewNodes
-    built_full p = record { told = instance_built NoRoom p; few = tt; kept = p.kept }
+    built_full p e = rw e (record { told = instance_built None p; few = tt; kept = p.kept })
 
 -- ---- a side that was built
 
-pub few_done : {r : Side} {n e : ℕ} → FewNodes r → r ≡ Done n e → n ≤ NODES
+pub few_done : {r : Option Side} {side-built : Side} → FewNodes r → r ≡ Some side-built → side-built.nodes ≤ NODES
 unfolding FewNodes
 few_done f q = rw q at f

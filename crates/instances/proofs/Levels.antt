@@ -1,5 +1,6 @@
 -- Whether a = 0 in every power of a term is told by its nodes, and the walk asks each of them.
-use Prim.Native.Nat.{ℕ, ◌-◌}
+use Prim.Native.Nat.{ℕ}
+use Rattle.std.specs.Prelude.{Some, None}
 use mathlib.Core.Path.{◌≡◌, refl, sym, subst, ap, ◌∙◌}
 use mathlib.Core.Bool.{Bool, true, false, not, false≢true}
 use mathlib.Core.List.{List, ◌++◌}
@@ -12,13 +13,14 @@ use Rattle.patterns.specs.Every.{Every}
 use Rattle.patterns.proofs.Every.{every_first, every_rest, every_append}
 use Rattle.table.specs.Answer.{Says}
 use Rattle.instances.specs.Lying.{TermAt}
-use Rattle.instances.specs.Walks.{single, first_stand, Passage, Ended, walked, LevelNode}
+use Rattle.instances.specs.Walks.{single, Passage, walked, LevelNode}
+use Rattle.instances.specs.Turns.{Begins, Turns}
 use Rattle.instances.specs.Instances.{Levels}
 use Rattle.instances.specs.declared.Header.{Header}
 use Rattle.instances.specs.declared.Header.TheVariants.{Variable, Symbol, Power, Missing}
-use Rattle.instances.specs.declared.Stand.{Stand}
+use Rattle.instances.specs.declared.nodes.Walk.{Walk}
 use Rattle.instances.proofs.Walks.{walked_term}
-use Rattle.instances.proofs.Goings.{Meets, Going, going_start, going_over, going_more, going_on}
+use Rattle.instances.proofs.Goings.{Going, going_start, going_over, going_more, going_on}
 
 mutual
   unfolding All nodes Every LevelNode
@@ -70,31 +72,31 @@ module _ (h : Header) where
 
 -- ---- the walk that asks each node
 
-abbrev pub Levelling : List ℕ → List ℕ → ℕ → ℕ → Stand → Type 0
-Levelling book s at left p = Going (Every LevelNode) book s at left p
+abbrev pub Levelling : List ℕ → List ℕ → ℕ → Walk → Type 0
+Levelling book s at t = Going (Every LevelNode) book s at t
 
-pub levelling_start : (book s : List ℕ) (at : ℕ) → Levelling book s at 256 (first_stand at)
+pub levelling_start : {book s : List ℕ} {at : ℕ} {t : Walk} → Begins book s at t → Levelling book s at t
 unfolding Every
-levelling_start book s at = going_start book s at tt
+levelling_start b = going_start b tt
 
 met_nodes : {book s : List ℕ} {at : ℕ} (v : Passage) → walked book s at ≡ v → (t : Pattern) → TermAt book s at t → v.met ≡ nodes t
 met_nodes {book} {s} {at} v e t h = ap (λ (v : Passage). v.met) (sym e ∙ walked_term book s at t h)
 
-module _ {book s : List ℕ} {at left : ℕ} {p : Stand} (g : Levelling book s at left p) where
-  pub levelling_over : Ended left p.pending → Levels book s at true
+module _ {book s : List ℕ} {at : ℕ} {walk : Walk} (g : Levelling book s at walk) {u : Walk} where
+  pub levelling_over : Turns walk u None → Levels book s at true
   unfolding Says
-  levelling_over e = record { told = λ t h. level_node_all t (subst (Every LevelNode) (met_nodes _ (going_over g e) t h) g.holds) }
+  levelling_over n = record { told = λ t h. level_node_all t (subst (Every LevelNode) (met_nodes _ (going_over g n) t h) g.holds) }
 
-  module _ {h : Header} {q : Stand} (m : Meets book s left p h q) where
+  module _ {h : Header} (n : Turns walk u (Some h)) where
     pub levelling_not : (b : Bool) → Says (Every LevelNode (single h)) b → not b ≡ true → Levels book s at false
     unfolding Says
     levelling_not true so z = absurd (false≢true z)
     levelling_not false wild z = record {
       told = λ t l a. wild (every_rest LevelNode g.met (single h) (every_first LevelNode (g.met ++ single h) _
-          (subst (Every LevelNode) (sym (met_nodes _ (going_more g m) t l)) (all_level_node t a))));
+          (subst (Every LevelNode) (sym (met_nodes _ (going_more g n) t l)) (all_level_node t a))));
     }
 
-    pub levelling_on : (b : Bool) → Says (Every LevelNode (single h)) b → not b ≡ false → Levelling book s at (left - 1) q
+    pub levelling_on : (b : Bool) → Says (Every LevelNode (single h)) b → not b ≡ false → Levelling book s at u
     unfolding Says
-    levelling_on true so z = going_on g m (every_append LevelNode g.met (single h) g.holds so)
+    levelling_on true so z = going_on g n (every_append LevelNode g.met (single h) g.holds so)
     levelling_on false wild z = absurd (false≢true (sym z))

@@ -86,3 +86,27 @@ module _ (book s : List ℕ) (fills n at : ℕ) (w : List ℕ) where
                 (one_more book s fills least c.value c.at p.1 θ w u room (omega (arith, R.0, got.0)) small T rest.0),
             omega (arith, got.1, rest.1, width_append fs gs),
           )
+
+-- ---- one pair after the other
+
+-- k of the n pairs are noted: where the others are noted from here on, all are
+pub record NotesRest (book s : List ℕ) (fills n at : ℕ) (w₀ : List ℕ) (k end : ℕ) (w : List ℕ) : Type 0 where
+  pub all : (u : List ℕ) (r : ℕ) → NotesPairs book s fills (n - k) end w u r → NotesPairs book s fills n at w₀ u r
+
+module _ (book s : List ℕ) (fills n at : ℕ) (w₀ : List ℕ) where
+  pub rest_first : NotesRest book s fills n at w₀ 0 at w₀
+  rest_first = let whole : n - 0 ≡ n = omega arith in record { all = λ u r N. rw whole at N }
+
+  module _ {k here : ℕ} {w : List ℕ} (R : NotesRest book s fills n at w₀ k here w) where
+    pub rest_pair : {c : Read} {end : ℕ} → fills + 64 ≤ length w → k < n → Takes s 6 here c → Skips book s c.at end
+        → NotesRest book s fills n at w₀ (k + 1) end (set w (fills + c.value) (c.at + 1))
+    rest_pair {c} {end} room more taken S =
+        let left : n - (k + 1) ≡ n - k - 1 = omega arith in
+        record {
+          all = λ u r N. R.all u r
+              (notes_pair book s fills (n - k) here w c end u r room (λ z. omega arith) taken S
+              (subst (λ m. NotesPairs book s fills m end (set w (fills + c.value) (c.at + 1)) u r) left N));
+        }
+
+    pub rest_none : n ≤ k → NotesPairs book s fills n at w₀ w here
+    rest_none l = R.all w here (notes_none book s fills (n - k) here w (omega arith))

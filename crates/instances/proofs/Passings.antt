@@ -34,7 +34,7 @@ module _ {h k : Held} {word : ℕ} {last : Spelt} where
   pub held_last : NotesHeld h k word last last
   held_last = record { told = λ book cert w base few t c m. m }
 
-  pub held_new : h.code ≡ 0 → k.code ≡ 0 → k.nodes ≤ k.parts → NotesHeld h k word last (record { word = word; from = h.nodes; count = k.nodes - h.nodes })
+  pub held_new : h.power.code ≡ 0 → k.power.code ≡ 0 → k.nodes ≤ k.parts → NotesHeld h k word last (record { word = word; from = h.nodes; count = k.nodes - h.nodes })
   held_new z q l = record { told = go }
     where
       go : (book cert w : List ℕ) (base : ℕ) → h.parts ≤ NODES → Tracked w base h → Came w base (walked book cert (word - 1)).met h k
@@ -54,12 +54,12 @@ module _ {h k : Held} {word : ℕ} {last : Spelt} where
 
 -- ---- a term that comes again
 
-pub repeated : {w : List ℕ} {base word : ℕ} {r : Bool} (h : Held) (last : Spelt) → word ≡ last.word → h.code ≡ 0 → h.nodes + last.count ≤ h.parts
+pub repeated : {w : List ℕ} {base word : ℕ} {r : Bool} (h : Held) (last : Spelt) → word ≡ last.word → h.power.code ≡ 0 → h.nodes + last.count ≤ h.parts
     → Assures (part w base h.nodes last.count ≡ part w base last.from last.count) r → Assures (Repeated w base h word last) r
 repeated h last e z l a = record { so = λ y. record { word_same = e; none = z; few = l; same = a.so y } }
 
 pub came_repeated : {book cert w : List ℕ} {base word : ℕ} {h : Held} {last : Spelt} → 1 ≤ word → Remembers book cert w base NODES last → Repeated w base h word last
-    → Came w base (walked book cert (word - 1)).met h (record { nodes = h.nodes + last.count; parts = h.parts; code = 0; a = 0; b = 0 })
+    → Came w base (walked book cert (word - 1)).met h (record { nodes = h.nodes + last.count; parts = h.parts; power = h.power })
 came_repeated {book} {cert} {w} {base} {word} {h} {last} some m r =
     let ms = (walked book cert (word - 1)).met in
     let old = part w base last.from last.count in

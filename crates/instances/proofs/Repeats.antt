@@ -1,7 +1,7 @@
 -- The term that was spelled last is remembered over every push, and copied it is what it would be spelled.
 use Prim.Native.Nat.{ℕ, ◌+◌, ◌-◌, ◌≤◌}
-use mathlib.Core.Path.{◌≡◌, refl, sym, ap, subst, ◌∙◌}
-use mathlib.Core.Bool.{Bool, true, false, not, false≢true}
+use mathlib.Core.Path.{◌≡◌, sym, ap, subst, ◌∙◌}
+use mathlib.Core.Bool.{Bool, true}
 use mathlib.Core.List.{List, [], ◌++◌}
 use native.Mathlib.Omega.{arith}
 use Rattle.patterns.specs.Term.{Node}
@@ -11,8 +11,7 @@ use Rattle.table.specs.Nodes.{stack}
 use Rattle.table.specs.Sides.{Room, Stacked, Became, Pushes}
 use Rattle.table.specs.Answer.{Assures}
 use Rattle.table.specs.Repeats.{Closed, part}
-use Rattle.table.specs.declared.Pushed.{Pushed}
-use Rattle.table.specs.declared.Pushed.TheVariants.{Count, NoRoom}
+use Rattle.std.specs.Prelude.{Option, Some, None}
 use Rattle.table.proofs.Nodes.{stack_length}
 use Rattle.table.proofs.Sides.{took_room}
 use Rattle.table.proofs.Repeats.{part_same, part_pushed}
@@ -21,15 +20,14 @@ use Rattle.instances.specs.Walks.{walked}
 use Rattle.instances.specs.Repeats.{Remembers, Notes, pushed, Recalls, Grows}
 use Rattle.instances.specs.declared.Spelt.{Spelt}
 use Rattle.instances.specs.declared.Grown.{Grown}
-use Rattle.instances.specs.declared.Grown.TheVariants.{To, Beyond}
 use Rattle.instances.proofs.Pushings.{took_as}
 
 module _ {book cert w : List ℕ} {base n : ℕ} where
-  pub remembers_none : Remembers book cert w base n (record { word = 0; from = 0; count = 0 })
-  remembers_none = record { within = omega arith; nodes = λ z. absurd (z refl); closed = λ z. absurd (z refl) }
+  pub remembers_none : {last : Spelt} → last.word ≡ 0 → last.from ≡ 0 → last.count ≡ 0 → Remembers book cert w base n last
+  remembers_none e f g = record { within = omega arith; nodes = λ z. absurd (z e); closed = λ z. absurd (z e) }
 
   -- over any push
-  pub remembers_kept : {v : List ℕ} {k : ℕ} {last : Spelt} (ms : List (Node Exp)) → Pushes base n ms w v (Count k) → Remembers book cert w base n last
+  pub remembers_kept : {v : List ℕ} {k : ℕ} {last : Spelt} (ms : List (Node Exp)) → Pushes base n ms w v (Some k) → Remembers book cert w base n last
       → Remembers book cert v base k last
   remembers_kept {v} {k} {last} ms g r =
       let m = last.from + last.count in
@@ -41,7 +39,7 @@ module _ {book cert w : List ℕ} {base n : ℕ} where
       }
 
   -- of the term that is pushed
-  remembers_new : {v : List ℕ} {k : ℕ} (word : ℕ) → Pushes base n (walked book cert (word - 1)).met w v (Count k) → Closed (stack w base n) → Closed (stack v base k)
+  remembers_new : {v : List ℕ} {k : ℕ} (word : ℕ) → Pushes base n (walked book cert (word - 1)).met w v (Some k) → Closed (stack w base n) → Closed (stack v base k)
       → Remembers book cert v base k (record { word = word; from = n; count = k - n })
   unfolding Stacked
   remembers_new {v} {k} word g c d =
@@ -55,21 +53,17 @@ module _ {book cert w : List ℕ} {base n : ℕ} where
 
 -- ---- which one is remembered
 
-pub no_yes : (b : Bool) → not b ≡ false → b ≡ true
-no_yes true e = refl
-no_yes false e = absurd (false≢true (sym e))
-
 module _ {base n k word : ℕ} {closed : Bool} {last : Spelt} {v : List ℕ} where
   pub notes_last : Notes base n k word closed last v last
   notes_last = record { told = λ book cert w g a r. remembers_kept (walked book cert (word - 1)).met g r }
 
-  pub notes_new : {b : Bool} → not closed ≡ false → Assures (Closed (stack v base k)) b → not b ≡ false
+  pub notes_new : {b : Bool} → closed ≡ true → Assures (Closed (stack v base k)) b → b ≡ true
       → Notes base n k word closed last v (record { word = word; from = n; count = k - n })
-  notes_new {b} e x f = record { told = λ book cert w g a r. remembers_new word g (a.so (no_yes closed e)) (x.so (no_yes b f)) }
+  notes_new {b} e x f = record { told = λ book cert w g a r. remembers_new word g (a.so e) (x.so f) }
 
 -- ---- a term that comes again
 
-pub copied_again : {book cert w v : List ℕ} {base : ℕ} {r : Pushed} {word : ℕ} {last : Spelt} (n : ℕ) → 1 ≤ word → word ≡ last.word → Closed (stack w base n)
+pub copied_again : {book cert w v : List ℕ} {base : ℕ} {r : Option ℕ} {word : ℕ} {last : Spelt} (n : ℕ) → 1 ≤ word → word ≡ last.word → Closed (stack w base n)
     → Remembers book cert w base n last → Became base (part w base last.from last.count ++ stack w base n) w v r
     → Pushes base n (walked book cert (word - 1)).met w v r
 copied_again {book} {cert} {word = word} {last} n some e c m g =
@@ -77,7 +71,7 @@ copied_again {book} {cert} {word = word} {last} n some e c m g =
     (m.nodes (λ z. omega arith) ∙ ap (λ k. pushes exponents [] (walked book cert (k - 1)).met) (sym e)) g
 
 -- the side is ready to be looked at
-pub noting_fits : {base k : ℕ} {w v : List ℕ} {r : Pushed} (n : ℕ) (ms : List (Node Exp)) → Room base n w → Pushes base n ms w v r → r ≡ Count k → Room base k v × (n ≤ k)
+pub noting_fits : {base k : ℕ} {w v : List ℕ} {r : Option ℕ} (n : ℕ) (ms : List (Node Exp)) → Room base n w → Pushes base n ms w v r → r ≡ Some k → Room base k v × (n ≤ k)
 noting_fits {base} {k} {w} {v} n ms room g e =
     let t = subst (Pushes base n ms w v) e g in
     (took_room base n k ms w v room t, pushed_more n ms t)
@@ -85,21 +79,21 @@ noting_fits {base} {k} {w} {v} n ms room g e =
 -- ---- what a node of an instance does
 
 module _ {book cert w v : List ℕ} {base : ℕ} (n : ℕ) (ms : List (Node Exp)) where
-  pub grows_as : {ks : List (Node Exp)} {r : Grown} → ms ≡ ks → Grows book cert base n ms w v r → Grows book cert base n ks w v r
+  pub grows_as : {ks : List (Node Exp)} {r : Option Grown} → ms ≡ ks → Grows book cert base n ms w v r → Grows book cert base n ks w v r
   grows_as e g = record { took = took_as n e g.took; recalls = g.recalls }
 
-  module _ {r : Pushed} (g : Pushes base n ms w v r) where
-    pub grows_full : r ≡ NoRoom → Grows book cert base n ms w v Beyond
+  module _ {r : Option ℕ} (g : Pushes base n ms w v r) where
+    pub grows_full : {o : Option Grown} → r ≡ None → o ≡ None → Grows book cert base n ms w v o
     unfolding pushed Recalls
-    grows_full e = record { took = subst (Pushes base n ms w v) e g; recalls = tt }
+    grows_full e answer = rw answer (record { took = subst (Pushes base n ms w v) e g; recalls = tt })
 
-    pub grows_kept : {k : ℕ} {last : Spelt} → r ≡ Count k → Remembers book cert w base n last → Grows book cert base n ms w v (To k last)
+    pub grows_kept : {k : ℕ} {last : Spelt} → r ≡ Some k → Remembers book cert w base n last → Grows book cert base n ms w v (Some (record { nodes = k; last = last }))
     unfolding pushed Recalls
     grows_kept e m = let t = subst (Pushes base n ms w v) e g in record { took = t; recalls = remembers_kept ms t m }
 
-    pub grows_noted : {k word : ℕ} {closed : Bool} {last next : Spelt} → ms ≡ (walked book cert (word - 1)).met → r ≡ Count k
+    pub grows_noted : {k word : ℕ} {closed : Bool} {last next : Spelt} → ms ≡ (walked book cert (word - 1)).met → r ≡ Some k
         → Assures (Closed (stack w base n)) closed → Remembers book cert w base n last → Notes base n k word closed last v next
-        → Grows book cert base n ms w v (To k next)
+        → Grows book cert base n ms w v (Some (record { nodes = k; last = next }))
     unfolding pushed Recalls
     grows_noted q e a m x =
         let t = subst (Pushes base n ms w v) e g in
@@ -107,14 +101,14 @@ module _ {book cert w v : List ℕ} {base : ℕ} (n : ℕ) (ms : List (Node Exp)
 
 -- ---- its answer
 
-pub grown_full : {r : Grown} → r ≡ Beyond → pushed r ≡ NoRoom
+pub grown_full : {r : Option Grown} → r ≡ None → pushed r ≡ None
 unfolding pushed
 grown_full e = rw e
 
-pub grown_to : {r : Grown} {k : ℕ} {last : Spelt} → r ≡ To k last → pushed r ≡ Count k
+pub grown_to : {r : Option Grown} {g : Grown} → r ≡ Some g → pushed r ≡ Some g.nodes
 unfolding pushed
 grown_to e = rw e
 
-pub recalled : {book cert v : List ℕ} {base k : ℕ} {r : Grown} {last : Spelt} → r ≡ To k last → Recalls book cert base v r → Remembers book cert v base k last
+pub recalled : {book cert v : List ℕ} {base : ℕ} {r : Option Grown} {g : Grown} → r ≡ Some g → Recalls book cert base v r → Remembers book cert v base g.nodes g.last
 unfolding Recalls
 recalled e m = rw e at m

@@ -1,5 +1,5 @@
 -- What the walks over a packed term answer: where it ends, whether it has an index, and the normal form of an instance.
-use Rattle.std.specs.Prelude.{ℕ, ◌≤◌, ◌≡◌, Bool}
+use Rattle.std.specs.Prelude.{ℕ, ◌≤◌, ◌≡◌, Bool, Option, Some, None}
 use mathlib.Core.List.{List, [], reverse, flat_map}
 use Rattle.std.proofs.Math.Option.{some}
 use Rattle.patterns.specs.Term.{Filling, fill, All}
@@ -13,14 +13,12 @@ use Rattle.table.specs.Sides.{Kept}
 use Rattle.table.specs.Second.{Amounts}
 use Rattle.table.specs.Marks.{Built}
 use Rattle.table.specs.Answer.{Says}
-use Rattle.table.specs.declared.Pushed.TheVariants.{Count, NoRoom}
 use Rattle.table.specs.declared.Outcome.{Outcome}
 use Rattle.instances.specs.Lying.{TermAt, behind}
 use Rattle.instances.specs.Fillings.{FillsTold}
 use Rattle.instances.specs.Walks.{walked}
 use Rattle.instances.specs.Filled.{filled}
 use Rattle.instances.specs.declared.Side.{Side}
-use Rattle.instances.specs.declared.Side.TheVariants.{Done, Full}
 
 -- the answer is where the term ends
 pub record Skips (book s : List ℕ) (at r : ℕ) : Type 0 where
@@ -31,16 +29,16 @@ pub record Levels (book s : List ℕ) (at : ℕ) (r : Bool) : Type 0 where
   pub told : (t : Pattern) → TermAt book s at t → Says (All Level t) r
 
 -- the side at `base` has the normal form of m, and `end` is told; or it has more than 1,024 nodes
-unfoldable pub Stored : ℕ → Mark Exp → ℕ → List ℕ → Side → Type 0
-Stored base m end after (Done n e) = Built base m after (Count n) × (e ≡ end)
-Stored base m end after Full = Built base m after NoRoom
+unfoldable pub Stored : ℕ → Mark Exp → ℕ → List ℕ → Option Side → Type 0
+Stored base m end after (Some r) = Built base m after (Some r.nodes) × (r.end ≡ end)
+Stored base m end after None = Built base m after None
 
-unfoldable pub FewNodes : Side → Type 0
-FewNodes (Done n e) = n ≤ NODES
-FewNodes Full = Unit {0}
+unfoldable pub FewNodes : Option Side → Type 0
+FewNodes (Some r) = r.nodes ≤ NODES
+FewNodes None = Unit {0}
 
 -- 01: "An instance is a term reindexed first and then filled; the filling's own terms are not reindexed."
-pub record Builds (book s cert : List ℕ) (base at i j fills : ℕ) (w after : List ℕ) (r : Side) : Type 0 where
+pub record Builds (book s cert : List ℕ) (base at i j fills : ℕ) (w after : List ℕ) (r : Option Side) : Type 0 where
   pub told : (t : Pattern) (θ : Filling Exp) → TermAt book s at t → FillsTold book cert w fills θ
       → Stored base (some (fill θ (reindex one (i, j) t))) (behind at t) after r
   pub few : FewNodes r

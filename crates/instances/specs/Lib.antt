@@ -4,6 +4,7 @@ pub mod Taking
 pub mod Fillings
 pub mod Headers
 pub mod Walks
+pub mod Turns
 pub mod Filled
 pub mod Repeats
 pub mod Instances

@@ -1,5 +1,5 @@
 -- The term that was spelled last: what is remembered of it while a side is built, or held against another.
-use Rattle.std.specs.Prelude.{ℕ, ◌+◌, ◌-◌, ◌≤◌, ◌≡◌, Bool, List, []}
+use Rattle.std.specs.Prelude.{ℕ, ◌+◌, ◌-◌, ◌≤◌, ◌≡◌, Bool, Option, Some, None, List, []}
 use Rattle.patterns.specs.Term.{Node}
 use Rattle.patterns.specs.First.{Exp, exponents}
 use Rattle.patterns.specs.Push.{pushes}
@@ -10,13 +10,10 @@ use Rattle.table.specs.Places.{NODES}
 use Rattle.table.specs.Second.{Tracks, Came}
 use Rattle.table.specs.Repeats.{Closed, part}
 use Rattle.table.specs.declared.Held.{Held}
-use Rattle.table.specs.declared.Pushed.{Pushed}
-use Rattle.table.specs.declared.Pushed.TheVariants.{Count, NoRoom}
 use Rattle.instances.specs.Walks.{walked}
 use Rattle.instances.specs.declared.Spelt.{Spelt}
 use Rattle.instances.specs.declared.Passed.{Passed}
 use Rattle.instances.specs.declared.Grown.{Grown}
-use Rattle.instances.specs.declared.Grown.TheVariants.{To, Beyond}
 
 -- among the first n nodes of the side are those that it became, and nothing merges with the last of them
 pub record Remembers (book cert w : List ℕ) (base n : ℕ) (last : Spelt) : Type 0 where
@@ -28,20 +25,20 @@ pub record Remembers (book cert w : List ℕ) (base n : ℕ) (last : Spelt) : Ty
 
 -- `last`, or the term of a word that took the side from n nodes to k
 pub record Notes (base n k word : ℕ) (closed : Bool) (last : Spelt) (after : List ℕ) (r : Spelt) : Type 0 where
-  pub told : (book cert w : List ℕ) → Pushes base n (walked book cert (word - 1)).met w after (Count k) → Assures (Closed (stack w base n)) closed
+  pub told : (book cert w : List ℕ) → Pushes base n (walked book cert (word - 1)).met w after (Some k) → Assures (Closed (stack w base n)) closed
       → Remembers book cert w base n last → Remembers book cert after base k r
 
 -- the answer of a push
-unfoldable pub pushed : Grown → Pushed
-pushed (To k last) = Count k
-pushed Beyond = NoRoom
+unfoldable pub pushed : Option Grown → Option ℕ
+pushed (Some r) = Some r.nodes
+pushed None = None
 
-unfoldable pub Recalls : List ℕ → List ℕ → ℕ → List ℕ → Grown → Type 0
-Recalls book cert base w (To k last) = Remembers book cert w base k last
-Recalls book cert base w Beyond = Unit {0}
+unfoldable pub Recalls : List ℕ → List ℕ → ℕ → List ℕ → Option Grown → Type 0
+Recalls book cert base w (Some r) = Remembers book cert w base r.nodes r.last
+Recalls book cert base w None = Unit {0}
 
 -- the nodes ms were pushed on a side of n nodes, and a term is remembered
-pub record Grows (book cert : List ℕ) (base n : ℕ) (ms : List (Node Exp)) (w after : List ℕ) (r : Grown) : Type 0 where
+pub record Grows (book cert : List ℕ) (base n : ℕ) (ms : List (Node Exp)) (w after : List ℕ) (r : Option Grown) : Type 0 where
   pub took : Pushes base n ms w after (pushed r)
   pub recalls : Recalls book cert base after r
 
@@ -56,13 +53,13 @@ pub record Tracked (w : List ℕ) (base : ℕ) (h : Held) : Type 0 where
 -- the term of the word was spelled last, no power waits, and the stored nodes from the next on are those that it became
 pub record Repeated (w : List ℕ) (base : ℕ) (h : Held) (word : ℕ) (last : Spelt) : Type 0 where
   pub word_same : word ≡ last.word
-  pub none : h.code ≡ 0
+  pub none : h.power.code ≡ 0
   pub few : h.nodes + last.count ≤ h.parts
   pub same : part w base h.nodes last.count ≡ part w base last.from last.count
 
 -- no node goes away
 pub record Onward (h k : Held) : Type 0 where
-  pub grew : h.code ≡ 0 → k.code ≡ 0 → h.nodes ≤ k.nodes
+  pub grew : h.power.code ≡ 0 → k.power.code ≡ 0 → h.nodes ≤ k.nodes
 
 -- `last`, or the term of a word that brought the side from h to k
 pub record NotesHeld (h k : Held) (word : ℕ) (last r : Spelt) : Type 0 where

@@ -10,11 +10,7 @@ pub fn forget(w: &mut [u64], fills: usize)
     requires { fills + 64 ≤ length w.old }
     ensures { Forgets fills w.old w.new }
 {
-    let mut x: usize = 0;
-    while x < 64 {
-        w[fills + x] = 0;
-        x += 1;
-    }
+    w[fills..fills + 64].fill(0);
 }
 
 // The n pairs at a bit of s: each variable's word is one more than the bit where its term begins. The answer is where they end.
@@ -22,15 +18,16 @@ fn list_pairs(book: &[u8], s: &[u8], w: &mut [u64], fills: usize, n: u16, at: us
     requires { fills + 64 ≤ length w.old }
     ensures { NotesPairs book.now s.now fills n at w.old w.new result }
 {
-    if n == 0 {
-        return at;
+    let mut pair = at;
+    for _ in 0..n {
+        let variable = field(s, 6, pair);
+        let x = variable.value as usize;
+        let term = variable.at;
+        let end = skip(book, s, term);
+        w[fills + x] = (term as u64) + 1;
+        pair = end;
     }
-    let variable = field(s, 6, at);
-    let x = variable.value as usize;
-    let term = variable.at;
-    let end = skip(book, s, term);
-    w[fills + x] = (term as u64) + 1;
-    list_pairs(book, s, w, fills, n - 1, end)
+    pair
 }
 
 // The filling at a bit of s, indexed in the 64 words from `fills` on; the answer is where it ends.

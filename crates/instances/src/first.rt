@@ -8,43 +8,35 @@ ghost use Rattle.instances.specs.Walks.{single, walked};
 ghost use Rattle.instances.specs.Filled.{filled};
 ghost use Rattle.instances.specs.Repeats.{Remembers, Notes, Grows};
 
-use crate::nodes::header_of;
-use crate::{Grown, Header, Spelt, Stand, is_over, item_of, next, word_of};
-use table::Pushed;
+use crate::nodes::Walk;
+use crate::{Grown, Header, Spelt, item_of, word_of};
 
 // The nodes of the term at a bit, just as they stand.
-fn spell(book: &[u8], s: &[u8], w: &mut [u64], base: usize, count: usize, at: usize) -> Pushed
+fn spell(
+    book: &[u8],
+    s: &[u8],
+    w: &mut [u64],
+    base: usize,
+    count: usize,
+    at: usize,
+) -> Option<usize>
     requires room { Room base count w.old }
     requires count_bound { load (stack w.old base count) ≤ 2 ^ 60 }
     ensures { Pushes base count (walked book.now s.now at).met w.old w.new result }
 {
     let mut n = count;
-    let mut p = Stand { at, pending: 1 };
-    let mut left: usize = 256;
-    while !is_over(p, left) {
-        let header = header_of(book, bits::view(s, p.at), p.at, bits::room(s));
-        let stand = next(header, p.pending);
-        let Pushed::Count(k) = table::push(w, base, n, item_of(header, 1, 0)) else {
-            return Pushed::NoRoom;
-        };
-        n = k;
-        p = stand;
-        left -= 1;
+    let mut walk = Walk::new(book, s, at);
+    while let Some(header) = walk.next() {
+        n = table::push(w, base, n, item_of(header, 1, 0))?;
     }
-    Pushed::Count(n)
+    Some(n)
 }
 
 // Whether the term that was spelled last comes again, where nothing merges with it.
 fn is_repeated(closed: bool, word: u64, last: u64) -> bool
     ensures { Assures ((closed ≡ true) × (word ≡ last)) result }
 {
-    if !closed {
-        return false;
-    }
-    if word != last {
-        return false;
-    }
-    true
+    closed && word == last
 }
 
 // The term of a word that took the side from n nodes to k, if nothing merges with it on either end; else the one before it.
@@ -61,17 +53,14 @@ fn remembered(
     requires n_le_k { n ≤ k }
     ensures { Notes base n k word closed last w.now result }
 {
-    if !closed {
-        return last;
+    if closed && table::is_closed(w, base, k) {
+        return Spelt {
+            word,
+            from: n,
+            count: k - n,
+        };
     }
-    if !table::is_closed(w, base, k) {
-        return last;
-    }
-    Spelt {
-        word,
-        from: n,
-        count: k - n,
-    }
+    last
 }
 
 // The term of a word, just as it stands: copied if it was spelled last.
@@ -80,28 +69,24 @@ fn push_listed(
     certificate: &[u8],
     w: &mut [u64],
     base: usize,
-    n: usize,
+    from: Grown,
     word: u64,
-    last: Spelt,
-) -> Grown
-    requires room { Room base n w.old }
-    requires n_bound { (load (stack w.old base n) ≤ 2 ^ 60) × (1 ≤ word) × Remembers book.now certificate.now w.old base n last }
-    ensures { Grows book.now certificate.now base n (walked book.now certificate.now (word - 1)).met w.old w.new result }
+) -> Option<Grown>
+    requires room { Room base from.nodes w.old }
+    requires n_bound { (load (stack w.old base from.nodes) ≤ 2 ^ 60) × (1 ≤ word) × Remembers book.now certificate.now w.old base from.nodes from.last }
+    ensures { Grows book.now certificate.now base from.nodes (walked book.now certificate.now (word - 1)).met w.old w.new result }
 {
+    let Grown { nodes: n, last } = from;
     let closed = table::is_closed(w, base, n);
     if is_repeated(closed, word, last.word) {
-        let Pushed::Count(k) = table::copy(w, base, n, last.from, last.count) else {
-            return Grown::Beyond;
-        };
-        return Grown::To { nodes: k, last };
+        let k = table::copy(w, base, n, last.from, last.count)?;
+        return Some(Grown { nodes: k, ..from });
     }
-    let Pushed::Count(k) = spell(book, certificate, w, base, n, (word - 1) as usize) else {
-        return Grown::Beyond;
-    };
-    Grown::To {
+    let k = spell(book, certificate, w, base, n, (word - 1) as usize)?;
+    Some(Grown {
         nodes: k,
         last: remembered(w, base, n, k, word, closed, last),
-    }
+    })
 }
 
 // A node of an instance: a listed variable's term as it stands, any other node reindexed.
@@ -110,23 +95,20 @@ pub fn push_filled(
     certificate: &[u8],
     w: &mut [u64],
     base: usize,
-    n: usize,
+    from: Grown,
     header: Header,
     i: u16,
     j: u16,
     fills: usize,
-    last: Spelt,
-) -> Grown
-    requires room { Room base n w.old }
-    requires n_bound { (load (stack w.old base n) ≤ 2 ^ 60) × (fills + 64 ≤ length w.old) × Remembers book.now certificate.now w.old base n last }
-    ensures { Grows book.now certificate.now base n (flat_map (filled book.now certificate.now w.old fills i j) (single header)) w.old w.new result }
+) -> Option<Grown>
+    requires room { Room base from.nodes w.old }
+    requires n_bound { (load (stack w.old base from.nodes) ≤ 2 ^ 60) × (fills + 64 ≤ length w.old) × Remembers book.now certificate.now w.old base from.nodes from.last }
+    ensures { Grows book.now certificate.now base from.nodes (flat_map (filled book.now certificate.now w.old fills i j) (single header)) w.old w.new result }
 {
     let word = word_of(w, fills, header);
     if word == 0 {
-        let Pushed::Count(k) = table::push(w, base, n, item_of(header, i, j)) else {
-            return Grown::Beyond;
-        };
-        return Grown::To { nodes: k, last };
+        let k = table::push(w, base, from.nodes, item_of(header, i, j))?;
+        return Some(Grown { nodes: k, ..from });
     }
-    push_listed(book, certificate, w, base, n, word, last)
+    push_listed(book, certificate, w, base, from, word)
 }

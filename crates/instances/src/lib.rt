@@ -18,7 +18,7 @@ ghost use Rattle.instances.specs.Filled.{ComesAs, word_of};
 
 use bits::{Cursor, Taken};
 use first::push_filled;
-use nodes::header_of;
+use nodes::Walk;
 use table::{Held, Item};
 
 // A field, and the bit behind it.
@@ -57,26 +57,26 @@ pub struct Stand {
     pub pending: usize,
 }
 
-// A side of a comparison: how many nodes it has, and where the term behind it ends; or it has more than 1,024.
+// A side of a comparison: how many nodes it has, and where the term behind it ends.
 #[derive(Clone, Copy)]
-pub enum Side {
-    Done { nodes: usize, end: usize },
-    Full,
+pub struct Side {
+    pub nodes: usize,
+    pub end: usize,
 }
 
 // The term that was spelled last: its word, 0 where none is remembered; the number of the first node that it became, and how many these are.
-#[derive(Clone, Copy)]
+#[derive(Clone, Copy, Default)]
 pub struct Spelt {
     pub word: u64,
     pub from: usize,
     pub count: usize,
 }
 
-// How many nodes a side holds after a node of an instance, with the term that was spelled last; or it would have to hold more than 1,024.
+// How many nodes a side holds after a node of an instance, with the term that was spelled last.
 #[derive(Clone, Copy)]
-pub enum Grown {
-    To { nodes: usize, last: Spelt },
-    Beyond,
+pub struct Grown {
+    pub nodes: usize,
+    pub last: Spelt,
 }
 
 // How far a second side has come, with the term that was spelled last.
@@ -125,24 +125,16 @@ pub fn next(header: Header, pending: usize) -> Stand
 pub fn is_over(p: Stand, left: usize) -> bool
     ensures { Says (Ended left p.pending) result }
 {
-    if left == 0 {
-        return true;
-    }
-    p.pending == 0
+    left == 0 || p.pending == 0
 }
 
 // Where the term at a bit ends.
 pub fn skip(book: &[u8], s: &[u8], at: usize) -> usize
     ensures { Skips book.now s.now at result }
 {
-    let mut p = Stand { at, pending: 1 };
-    let mut left: usize = 256;
-    while !is_over(p, left) {
-        let header = header_of(book, bits::view(s, p.at), p.at, bits::room(s));
-        p = next(header, p.pending);
-        left -= 1;
-    }
-    p.at
+    let mut walk = Walk::new(book, s, at);
+    while let Some(_) = walk.next() {}
+    walk.stand.at
 }
 
 // Whether a = 0 in a node.
@@ -161,16 +153,11 @@ fn level_node(header: Header) -> bool
 pub fn level(book: &[u8], s: &[u8], at: usize) -> bool
     ensures { Levels book.now s.now at result }
 {
-    let mut p = Stand { at, pending: 1 };
-    let mut left: usize = 256;
-    while !is_over(p, left) {
-        let header = header_of(book, bits::view(s, p.at), p.at, bits::room(s));
-        let stand = next(header, p.pending);
+    let mut walk = Walk::new(book, s, at);
+    while let Some(header) = walk.next() {
         if !level_node(header) {
             return false;
         }
-        p = stand;
-        left -= 1;
     }
     true
 }
@@ -215,7 +202,7 @@ fn word_of(w: &[u64], fills: usize, header: Header) -> u64
 }
 
 // The instance of the term at a bit of s, reindexed by (i, j) and filled by terms of the certificate as the words at `fills` tell: the
-// nodes of its normal form on the side at `base`.
+// nodes of its normal form on the side at `base`, unless they are more than 1,024.
 pub fn build(
     book: &[u8],
     s: &[u8],
@@ -226,32 +213,20 @@ pub fn build(
     i: u16,
     j: u16,
     fills: usize,
-) -> Side
+) -> Option<Side>
     requires { (base + SIDE ≤ length w.old) × (fills + 64 ≤ base) }
     ensures { Builds book.now s.now certificate.now base at i j fills w.old w.new result }
 {
-    let mut nodes: usize = 0;
-    let mut last = Spelt {
-        word: 0,
-        from: 0,
-        count: 0,
+    let mut grown = Grown {
+        nodes: 0,
+        last: Spelt::default(),
     };
-    let mut p = Stand { at, pending: 1 };
-    let mut left: usize = 256;
-    while !is_over(p, left) {
-        let header = header_of(book, bits::view(s, p.at), p.at, bits::room(s));
-        let stand = next(header, p.pending);
-        let Grown::To {
-            nodes: k,
-            last: spelt,
-        } = push_filled(book, certificate, w, base, nodes, header, i, j, fills, last)
-        else {
-            return Side::Full;
-        };
-        nodes = k;
-        last = spelt;
-        p = stand;
-        left -= 1;
+    let mut walk = Walk::new(book, s, at);
+    while let Some(header) = walk.next() {
+        grown = push_filled(book, certificate, w, base, grown, header, i, j, fills)?;
     }
-    Side::Done { nodes, end: p.at }
+    Some(Side {
+        nodes: grown.nodes,
+        end: walk.stand.at,
+    })
 }

@@ -11,25 +11,20 @@ ghost use Rattle.instances.specs.Walks.{single, walked};
 ghost use Rattle.instances.specs.Filled.{filled};
 ghost use Rattle.instances.specs.Repeats.{Remembers, Tracked, Repeated, Onward, NotesHeld, Passes};
 
-use crate::nodes::header_of;
-use crate::{Header, Passed, Spelt, Stand, is_over, item_of, next, word_of};
+use crate::nodes::Walk;
+use crate::{Header, Passed, Spelt, item_of, word_of};
 use table::{Held, NODES, Outcome};
 
 // The nodes of the term at a bit, just as they stand.
 fn hold_term(book: &[u8], s: &[u8], w: &[u64], base: usize, from: Held, at: usize) -> Held
     requires room { Room base from.parts w.now }
-    requires nodes_bound { (from.nodes ≤ NODES) × (from.a + from.b ≤ 2 ^ 60) }
+    requires nodes_bound { (from.nodes ≤ NODES) × (from.power.a + from.power.b ≤ 2 ^ 60) }
     ensures { Came w.now base (walked book.now s.now at).met from result }
 {
     let mut h = from;
-    let mut p = Stand { at, pending: 1 };
-    let mut left: usize = 256;
-    while !is_over(p, left) {
-        let header = header_of(book, bits::view(s, p.at), p.at, bits::room(s));
-        let stand = next(header, p.pending);
+    let mut walk = Walk::new(book, s, at);
+    while let Some(header) = walk.next() {
         h = table::second::hold(w, base, h, item_of(header, 1, 0));
-        p = stand;
-        left -= 1;
     }
     h
 }
@@ -40,13 +35,7 @@ fn is_repeated(w: &[u64], base: usize, h: Held, word: u64, last: Spelt) -> bool
     requires nodes_bound { (h.nodes ≤ NODES) × (last.from + last.count ≤ NODES) }
     ensures { Assures (Repeated w.now base h word last) result }
 {
-    if word != last.word {
-        return false;
-    }
-    if h.code != 0 {
-        return false;
-    }
-    if h.nodes + last.count > h.parts {
+    if word != last.word || h.power.code != 0 || h.nodes + last.count > h.parts {
         return false;
     }
     table::second::again(w, base, h.nodes, last.from, last.count)
@@ -57,20 +46,14 @@ fn remembered(before: Held, after: Held, word: u64, last: Spelt) -> Spelt
     requires { Onward before after }
     ensures { NotesHeld before after word last result }
 {
-    if before.code != 0 {
-        return last;
+    if before.power.code == 0 && after.power.code == 0 && after.nodes <= after.parts {
+        return Spelt {
+            word,
+            from: before.nodes,
+            count: after.nodes - before.nodes,
+        };
     }
-    if after.code != 0 {
-        return last;
-    }
-    if after.nodes > after.parts {
-        return last;
-    }
-    Spelt {
-        word,
-        from: before.nodes,
-        count: after.nodes - before.nodes,
-    }
+    last
 }
 
 // The term of a word, just as it stands: compared if it was spelled last.
@@ -79,22 +62,19 @@ fn hold_listed(
     certificate: &[u8],
     w: &[u64],
     base: usize,
-    h: Held,
+    from: Passed,
     word: u64,
-    last: Spelt,
 ) -> Passed
-    requires room { Room base h.parts w.now }
-    requires nodes_bound { (h.nodes ≤ NODES) × (h.a + h.b ≤ 2 ^ 60) × (1 ≤ word) × Remembers book.now certificate.now w.now base NODES last × Tracked w.now base h }
-    ensures { Passes book.now certificate.now w.now base (walked book.now certificate.now (word - 1)).met h result }
+    requires room { Room base from.held.parts w.now }
+    requires nodes_bound { (from.held.nodes ≤ NODES) × (from.held.power.a + from.held.power.b ≤ 2 ^ 60) × (1 ≤ word) × Remembers book.now certificate.now w.now base NODES from.last × Tracked w.now base from.held }
+    ensures { Passes book.now certificate.now w.now base (walked book.now certificate.now (word - 1)).met from.held result }
 {
+    let Passed { held: h, last } = from;
     if is_repeated(w, base, h, word, last) {
         return Passed {
             held: Held {
                 nodes: h.nodes + last.count,
-                parts: h.parts,
-                code: 0,
-                a: 0,
-                b: 0,
+                ..h
             },
             last,
         };
@@ -112,25 +92,24 @@ fn hold_filled(
     certificate: &[u8],
     w: &[u64],
     base: usize,
-    h: Held,
+    from: Passed,
     header: Header,
     i: u16,
     j: u16,
     fills: usize,
-    last: Spelt,
 ) -> Passed
-    requires room { Room base h.parts w.now }
-    requires nodes_bound { (h.nodes ≤ NODES) × (h.a + h.b ≤ 2 ^ 60) × (fills + 64 ≤ length w.now) × Remembers book.now certificate.now w.now base NODES last × Tracked w.now base h }
-    ensures { Passes book.now certificate.now w.now base (flat_map (filled book.now certificate.now w.now fills i j) (single header)) h result }
+    requires room { Room base from.held.parts w.now }
+    requires nodes_bound { (from.held.nodes ≤ NODES) × (from.held.power.a + from.held.power.b ≤ 2 ^ 60) × (fills + 64 ≤ length w.now) × Remembers book.now certificate.now w.now base NODES from.last × Tracked w.now base from.held }
+    ensures { Passes book.now certificate.now w.now base (flat_map (filled book.now certificate.now w.now fills i j) (single header)) from.held result }
 {
     let word = word_of(w, fills, header);
     if word == 0 {
         return Passed {
-            held: table::second::hold(w, base, h, item_of(header, i, j)),
-            last,
+            held: table::second::hold(w, base, from.held, item_of(header, i, j)),
+            ..from
         };
     }
-    hold_listed(book, certificate, w, base, h, word, last)
+    hold_listed(book, certificate, w, base, from, word)
 }
 
 // The instance of the term at a bit of s, reindexed by (i, j) and filled by terms of the certificate as the words at `fills` tell, held against
@@ -151,31 +130,19 @@ pub fn hold_instance(
     requires fills_in_bounds { fills + 64 ≤ length w.now }
     ensures { Against book.now s.now certificate.now base n at i j fills w.now result }
 {
-    let mut h = Held {
-        nodes: 0,
-        parts: n,
-        code: 0,
-        a: 0,
-        b: 0,
+    let mut passed = Passed {
+        held: Held {
+            parts: n,
+            ..Held::default()
+        },
+        last: Spelt::default(),
     };
-    let mut last = Spelt {
-        word: 0,
-        from: 0,
-        count: 0,
-    };
-    let mut p = Stand { at, pending: 1 };
-    let mut left: usize = 256;
-    while !is_over(p, left) {
-        let header = header_of(book, bits::view(s, p.at), p.at, bits::room(s));
-        let stand = next(header, p.pending);
-        let passed = hold_filled(book, certificate, w, base, h, header, i, j, fills, last);
-        h = passed.held;
-        last = passed.last;
-        if h.nodes > NODES {
+    let mut walk = Walk::new(book, s, at);
+    while let Some(header) = walk.next() {
+        passed = hold_filled(book, certificate, w, base, passed, header, i, j, fills);
+        if passed.held.nodes > NODES {
             return Outcome::Full;
         }
-        p = stand;
-        left -= 1;
     }
-    table::second::outcome(w, base, n, h)
+    table::second::outcome(w, base, n, passed.held)
 }

@@ -1,4 +1,5 @@
 -- The lines of a certificate, one over the claims of those before it, and the whole.
+use Rattle.std.proofs.Common.{Result, Ok, Err}
 use Prim.Native.Nat.{ℕ, ◌+◌, ◌-◌, ◌≤◌}
 use mathlib.Core.Path.{◌≡◌, refl, sym, subst, ap, ◌∙◌}
 use mathlib.Core.Logic.{◌≢◌}
@@ -6,9 +7,6 @@ use mathlib.Core.List.{List, [], ◌∷◌, ◌++◌, map, flat_map, append_asso
 use mathlib.Core.Option.{Option, none, some}
 use native.Mathlib.Omega.{arith}
 use lib.ListN.{length, get_or}
-use Rattle.std.specs.Prelude.{Result}
-use Rattle.answers.specs.declared.Acceptance.{Acceptance}
-use Rattle.answers.specs.declared.Refusal.{Refusal}
 use Rattle.answers.specs.Carried.{carried}
 use Rattle.answers.specs.Numbers.{paper_verdict}
 use Rattle.patterns.specs.Reason.{Reason, line_place}
@@ -20,9 +18,10 @@ use Rattle.grammar.specs.Listing.{line_fields, closing_fields, certificate_field
 use Rattle.grammar.specs.Limits.{LinesFit, ClosingFits, call_counts}
 use Rattle.table.specs.Places.{LEFTS, RIGHTS, EMPTY}
 use Rattle.verdicts.proofs.Parted.{parted_line}
+use Rattle.answers.specs.declared.Acceptance.{Acceptance}
+use Rattle.answers.specs.declared.Refusal.{Refusal}
 use Rattle.instances.specs.declared.Read.{Read}
-use Rattle.comparing.specs.declared.Found.{Found}
-use Rattle.comparing.specs.declared.Found.TheVariants.{Fault, Good}
+use Rattle.comparing.specs.declared.Fault.{Fault}
 use Rattle.instances.specs.Lying.{Lies}
 use Rattle.instances.specs.Listings.{Forgets}
 use Rattle.begins.specs.Placed.{ClaimAt, Indexes}
@@ -36,6 +35,7 @@ use Rattle.begins.proofs.Frames.{below_less, known_below}
 use Rattle.comparing.proofs.Finding.{at_fault, at_good}
 use Rattle.lines.proofs.Claims.{length_more}
 use Rattle.lines.proofs.Placing.{fault_carried, placed_none, placed_fault}
+use Rattle.comparing.specs.Found.{Found}
 
 -- ---- all lines
 
@@ -56,9 +56,9 @@ lines_none {book} {cert} {w} {after} {at} {k} {n} {r} z p = record { told = go; 
     go ars B es known len (l ∷ ls) c e fits cf lies = absurd (omega arith)
 
 module _ {book cert w v : List ℕ} {at k n : ℕ} {f : Found} (ne : n ≢ 0) (small : k + n ≤ 255) (first : LineAt book cert at k w v f) where
-  pub lines_fault : {m p : ℕ} {r : Result Acceptance Refusal} → f ≡ Fault m p → paper_verdict r ≡ refuse (carried m line_place k p) → LinesAt book cert at k n w v r
+  pub lines_fault : {d : Fault} {r : Result Acceptance Refusal} → f ≡ Err d → paper_verdict r ≡ refuse (carried d.number line_place k d.part) → LinesAt book cert at k n w v r
   unfolding flat_map checks_from LinesFit
-  lines_fault {m} {p} {r} q e = record { told = go; size = first.size }
+  lines_fault {d} {r} q e = record { told = go; size = first.size }
     where
       go : (ars : List ℕ) (B : Book Exp) (es : List (Claim Exp)) → Known book cert w ars B es → length es ≡ k → (ls : List (Line Exp Pair)) (c : Closing Exp Pace)
           → length ls ≡ n → LinesFit ars (call_counts B) k ls → ClosingFits ars (k + n) c → Lies cert at (flat_map line_fields ls ++ closing_fields c)
@@ -70,12 +70,12 @@ module _ {book cert w v : List ℕ} {at k n : ℕ} {f : Found} (ne : n ≢ 0) (s
           let x = first.told ars B es known len (omega arith) l fits.0 fits.1 here in
           let found = at_fault x.0 q in
           record {
-            is = e ∙ ap refuse (fault_carried _ (parted_line one es B l.claim l.kind) m p line_place k found)
-                ∙ sym (placed_fault line_place k _ (line_checks one es B l.claim l.kind) m p c found);
+            is = e ∙ ap refuse (fault_carried _ (parted_line one es B l.claim l.kind) d.number d.part line_place k found)
+                ∙ sym (placed_fault line_place k _ (line_checks one es B l.claim l.kind) d.number d.part c found);
             known = λ line pace a. absurd (never_both (sym e ∙ a));
           }
 
-  pub lines_on : {x : ℕ} {after : List ℕ} {r : Result Acceptance Refusal} → f ≡ Good x → LinesAt book cert x (k + 1) (n - 1) v after r → LinesAt book cert at k n w after r
+  pub lines_on : {x : ℕ} {after : List ℕ} {r : Result Acceptance Refusal} → f ≡ Ok x → LinesAt book cert x (k + 1) (n - 1) v after r → LinesAt book cert at k n w after r
   unfolding flat_map checks_from LinesFit
   lines_on {x} {after} {r} q rest = record { told = go; size = rest.size ∙ first.size }
     where

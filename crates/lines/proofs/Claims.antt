@@ -17,13 +17,12 @@ use Rattle.grammar.specs.Listing.{if_any, term_fields, claim_fields, kind_fields
 use Rattle.grammar.specs.Limits.{KindFits, call_counts}
 use Rattle.table.specs.Places.{LEFTS, RIGHTS, EMPTY}
 use Rattle.instances.specs.declared.Read.{Read}
-use Rattle.comparing.specs.declared.Found.{Found}
 use Rattle.instances.specs.Lying.{Lies, behind}
 use Rattle.instances.specs.Instances.{Skips}
 use Rattle.begins.specs.Placed.{RightAt, LeftAt, RuleAt, ClaimAt, PassesRight}
 use Rattle.instances.specs.Taking.{Takes}
 use Rattle.begins.specs.Known.{Known}
-use Rattle.comparing.specs.Found.{Finds}
+use Rattle.comparing.specs.Found.{Found, Finds}
 use Rattle.unfolds.specs.Unfoldings.{UnfoldAt}
 use Rattle.descents.specs.Descents.{DescentAt}
 use Rattle.lines.specs.Certificates.{NotesLine, KindAt, LineAt}

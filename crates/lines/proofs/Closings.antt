@@ -1,13 +1,11 @@
 -- Both parts of a closing, and its verdict.
+use Rattle.std.proofs.Common.{Result, Ok, Err}
 use Prim.Native.Nat.{ℕ, ◌+◌}
 use mathlib.Core.Path.{◌≡◌, refl, sym, subst, ap, ◌∙◌}
 use mathlib.Core.List.{List, [], ◌∷◌}
 use mathlib.Core.Option.{none, some, none-ne-some}
 use native.Mathlib.Omega.{arith}
 use lib.ListN.{get_or, get_elem?}
-use Rattle.std.specs.Prelude.{Result}
-use Rattle.answers.specs.declared.Acceptance.{Acceptance}
-use Rattle.answers.specs.declared.Refusal.{Refusal}
 use Rattle.answers.specs.Carried.{carried}
 use Rattle.answers.specs.Numbers.{paper_verdict}
 use Rattle.patterns.specs.Term.{fill}
@@ -20,9 +18,10 @@ use Rattle.patterns.specs.Demand.{Met, present}
 use Rattle.patterns.specs.Judge.{check, compare, loop_checks, closing_checks, accept, refuse}
 use Rattle.grammar.specs.Listing.{closing_fields}
 use Rattle.verdicts.proofs.Parted.{parted_closing}
+use Rattle.answers.specs.declared.Acceptance.{Acceptance}
+use Rattle.answers.specs.declared.Refusal.{Refusal}
 use Rattle.instances.specs.declared.Read.{Read}
-use Rattle.comparing.specs.declared.Found.{Found}
-use Rattle.comparing.specs.declared.Found.TheVariants.{Fault, Good}
+use Rattle.comparing.specs.declared.Fault.{Fault}
 use Rattle.comparing.specs.declared.Whole.TheVariants.{Closing as AtClosing}
 use Rattle.comparing.specs.declared.Subject.{Subject}
 use Rattle.comparing.specs.declared.Subject.TheVariants.{Empty, Claimed}
@@ -34,7 +33,7 @@ use Rattle.begins.specs.Placed.{RightAt, ClaimAt}
 use Rattle.instances.specs.Taking.{Takes}
 use Rattle.begins.specs.Known.{Known}
 use Rattle.comparing.specs.Subjects.{Means, RightMeans}
-use Rattle.comparing.specs.Found.{Finds}
+use Rattle.comparing.specs.Found.{Found, Finds}
 use Rattle.comparing.specs.Asked.{asked_at, checks_of, end_of, Checks}
 use Rattle.lines.specs.Certificates.{pace_of, ClosingFound, ClosingBy, ClosingAt}
 use Rattle.instances.proofs.Taking.{rest_at}
@@ -62,8 +61,8 @@ module _ {book cert w v : List ℕ} {left right : ℕ} {r : Found} (first : Chec
   unfolding asked_at checks_of end_of Means
   there_found {ars} known here = first.told ars known.arity _ here.right_at none 0 (refl, refl) none 0 (refl, refl)
 
-  pub closing_empty : {line k α n p : ℕ} → left ≡ get_or w (LEFTS + line) 0 → right ≡ get_or w (RIGHTS + line) 0 → r ≡ Fault n p
-      → ClosingFound book cert line k α w v (Fault n p)
+  pub closing_empty : {line k α : ℕ} {d : Fault} → left ≡ get_or w (LEFTS + line) 0 → right ≡ get_or w (RIGHTS + line) 0 → r ≡ Err d
+      → ClosingFound book cert line k α w v (Err d)
   unfolding closing_checks
   closing_empty el er q = record {
     told = λ ars B es known d e p filled small.
@@ -72,7 +71,7 @@ module _ {book cert w v : List ℕ} {left right : ℕ} {r : Found} (first : Chec
     below = first.below;
   }
 
-  module _ (k α : ℕ) {x : ℕ} {from-right : Subject} {after : List ℕ} {s : Found} (good : r ≡ Good x) (plain : RightMeans cert right 1 α Bare from-right) (second : Checks book cert AtClosing 1 right Nothing from-right (Claimed left 1 (α + k) Used) v after s) where
+  module _ (k α : ℕ) {x : ℕ} {from-right : Subject} {after : List ℕ} {s : Found} (good : r ≡ Ok x) (plain : RightMeans cert right 1 α Bare from-right) (second : Checks book cert AtClosing 1 right Nothing from-right (Claimed left 1 (α + k) Used) v after s) where
     loop_found : {ars : List ℕ} {B : Book Exp} {es : List (Claim Exp)} → Known book cert w ars B es → (d : Closing Exp Pace) → d.pace ≡ pace_of k α
         → FillsTold book cert w USED (by d.fills) → (l : Claim Exp) → ClaimAt cert ars left right l → (m : Mark Exp) → l.right ≡ m
         → (end : ℕ) × Finds (loop_checks one l d m) end s
@@ -101,17 +100,17 @@ module _ {book cert w v : List ℕ} {left right : ℕ} {r : Found} (first : Chec
     }
 
 module _ {book cert w v : List ℕ} {line k α : ℕ} {f : Found} (found : ClosingFound book cert line k α w v f) where
-  pub closing_fault : {n p : ℕ} {r : Result Acceptance Refusal} → f ≡ Fault n p → paper_verdict r ≡ refuse (carried n closing_place line p) → ClosingBy book cert line k α w v r
-  closing_fault {n} {p} q e = record {
-    told = λ ars B es known d i pc filled small.
-        let first = at_fault (found.told ars B es known d i pc filled small).1 q in
-        e ∙ ap (λ a. refuse (carried n closing_place a p)) (sym i)
-        ∙ ap refuse (fault_carried (closing_checks one es d) (parted_closing one es d) n p closing_place d.line first)
-        ∙ sym (closed_fault d.line (closing_checks one es d) n p d first);
+  pub closing_fault : {d : Fault} {r : Result Acceptance Refusal} → f ≡ Err d → paper_verdict r ≡ refuse (carried d.number closing_place line d.part) → ClosingBy book cert line k α w v r
+  closing_fault {d} q e = record {
+    told = λ ars B es known c i pc filled small.
+        let first = at_fault (found.told ars B es known c i pc filled small).1 q in
+        e ∙ ap (λ a. refuse (carried d.number closing_place a d.part)) (sym i)
+        ∙ ap refuse (fault_carried (closing_checks one es c) (parted_closing one es c) d.number d.part closing_place c.line first)
+        ∙ sym (closed_fault c.line (closing_checks one es c) d.number d.part c first);
     below = found.below;
   }
 
-  pub closing_good : {x : ℕ} {r : Result Acceptance Refusal} → f ≡ Good x → paper_verdict r ≡ accept line (pace_of k α) → ClosingBy book cert line k α w v r
+  pub closing_good : {x : ℕ} {r : Result Acceptance Refusal} → f ≡ Ok x → paper_verdict r ≡ accept line (pace_of k α) → ClosingBy book cert line k α w v r
   closing_good q e = record {
     told = λ ars B es known d i p filled small.
         e ∙ ap (λ a. accept a (pace_of k α)) (sym i) ∙ ap (accept d.line) (sym p)

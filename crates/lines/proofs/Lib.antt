@@ -4,3 +4,4 @@ pub mod Placing
 pub mod Closings
 pub mod Certifying
 pub mod Going
+pub mod Mapping

@@ -1,8 +1,6 @@
 -- What the judging of a line leaves in the table, the verdict on a closing and on all lines, and what an accepted certificate leaves there.
 use Rattle.std.specs.Prelude.{ℕ, ◌+◌, ◌<◌, ◌≡◌, length, get_or, Result}
 use mathlib.Core.List.{List, [], ◌∷◌, ◌++◌, map, flat_map}
-use Rattle.answers.specs.declared.Acceptance.{Acceptance}
-use Rattle.answers.specs.declared.Refusal.{Refusal}
 use Rattle.answers.specs.Numbers.{paper_verdict}
 use Rattle.bits.specs.Packed.{width}
 use Rattle.patterns.specs.Reason.{closing_place}
@@ -14,12 +12,13 @@ use Rattle.grammar.specs.Books.{RuleBook}
 use Rattle.grammar.specs.Listing.{line_fields, kind_fields, kind_number, closing_fields, certificate_fields, book_fields}
 use Rattle.grammar.specs.Limits.{ClaimFits, KindFits, LinesFit, ClosingFits, call_counts, BookFits, CertificateFits}
 use Rattle.table.specs.Places.{LEFTS, RIGHTS, OWN, USED, FIRST}
-use Rattle.comparing.specs.declared.Found.{Found}
+use Rattle.answers.specs.declared.Acceptance.{Acceptance}
+use Rattle.answers.specs.declared.Refusal.{Refusal}
 use Rattle.instances.specs.Lying.{Lies, KnownArities}
 use Rattle.instances.specs.Fillings.{FillsTold}
 use Rattle.begins.specs.Placed.{RightAt, LeftAt}
 use Rattle.begins.specs.Known.{Below, Known}
-use Rattle.comparing.specs.Found.{Finds}
+use Rattle.comparing.specs.Found.{Found, Finds}
 
 abbrev pub pace_of : ℕ → ℕ → Pace
 pace_of k α = record { k = k; α = α }

@@ -2,13 +2,13 @@
 #![tactic(auto)]
 
 ghost use Rattle.std.specs.Prelude.{◌≡◌, ◌+◌, ◌≤◌, ◌<◌, length};
-ghost use Rattle.answers.specs.Numbers.{paper_verdict};
-ghost use Rattle.patterns.specs.Judge.{accept};
+ghost use Rattle.answers.specs.Numbers.{w_of, paper_refusal};
+ghost use Rattle.answers.specs.Carried.{carried};
 ghost use Rattle.table.specs.Places.{WORDS, ROWS};
-ghost use Rattle.lines.specs.Certificates.{pace_of, NotesLine, KindAt, LineAt, ClosingFound, ClosingBy, ClosingAt, LinesAt, Prepares, JudgesLines};
+ghost use Rattle.lines.specs.Certificates.{NotesLine, KindAt, LineAt, ClosingFound, ClosingBy, ClosingAt, LinesAt, Prepares, JudgesLines};
 
-use answers::{Acceptance, Verdict, W};
-use comparing::{Behind, Filled, Found, Subject, Whole};
+use answers::{Acceptance, Refusal, Verdict, W};
+use comparing::{Behind, Fault, Filled, Found, Subject, Whole};
 use table::{EMPTY, LEFTS, RIGHTS, USED};
 
 // Where both sides of line k lie, noted.
@@ -52,6 +52,13 @@ fn line(book: &[u8], certificate: &[u8], w: &mut [u64], at: usize, k: usize) -> 
     behind_claim(book, certificate, w, tag.value, left, right, rest)
 }
 
+// The refusal of a line or a closing by the first of its checks that is not met.
+fn refused(fault: Fault, w: W, line: usize) -> Refusal
+    ensures { paper_refusal result ≡ carried fault.number (w_of w) line fault.part }
+{
+    answers::carried(fault.number, w, line, fault.part)
+}
+
 // Both parts of the closing, its filling indexed.
 fn closing_parts(
     book: &[u8],
@@ -74,7 +81,7 @@ fn closing_parts(
         j: later,
         filled: Filled::Used,
     };
-    match comparing::check(
+    comparing::check(
         book,
         certificate,
         w,
@@ -84,20 +91,18 @@ fn closing_parts(
         Behind::Nothing,
         Subject::Empty,
         Subject::Empty,
-    ) {
-        Found::Fault { number: n, part: p } => Found::Fault { number: n, part: p },
-        Found::Good(_) => comparing::check(
-            book,
-            certificate,
-            w,
-            Whole::Closing,
-            1,
-            right,
-            Behind::Nothing,
-            first,
-            second,
-        ),
-    }
+    )?;
+    comparing::check(
+        book,
+        certificate,
+        w,
+        Whole::Closing,
+        1,
+        right,
+        Behind::Nothing,
+        first,
+        second,
+    )
 }
 
 // The verdict of a closing, its filling indexed.
@@ -112,19 +117,8 @@ fn closing_by(
     requires { (WORDS ≤ length w.old) × (line < ROWS) × (k < 4096) × (alpha < 4096) }
     ensures { ClosingBy book.now certificate.now line k alpha w.old w.new result }
 {
-    match closing_parts(book, certificate, w, line, k, alpha) {
-        Found::Fault { number: n, part: p } => {
-            let refusal = answers::carried(n, W::Closing, line, p);
-            Err(refusal)
-        }
-        Found::Good(_) => accepted(line, k, alpha),
-    }
-}
-
-// The closing's own numbers.
-fn accepted(line: usize, k: u16, alpha: u16) -> Verdict
-    ensures { paper_verdict result ≡ accept line (pace_of k alpha) }
-{
+    let found = closing_parts(book, certificate, w, line, k, alpha);
+    found.map_err(|fault| refused(fault, W::Closing, line))?;
     Ok(Acceptance {
         line,
         k: k as usize,
@@ -151,19 +145,9 @@ fn lines(book: &[u8], certificate: &[u8], w: &mut [u64], at: usize, k: usize, n:
     ensures { LinesAt book.now certificate.now at k n w.old w.new result }
 {
     let mut next = at;
-    let mut number = k;
-    let mut more = n;
-    while more > 0 {
-        match line(book, certificate, w, next, number) {
-            Found::Fault { number: m, part } => {
-                return Err(answers::carried(m, W::Line, number, part));
-            }
-            Found::Good(end) => {
-                next = end;
-            }
-        }
-        number += 1;
-        more -= 1;
+    for number in k..k + n {
+        let found = line(book, certificate, w, next, number);
+        next = found.map_err(|fault| refused(fault, W::Line, number))?;
     }
     closing(book, certificate, w, next)
 }

@@ -7,6 +7,8 @@ use mathlib.Core.Bool.{Bool, true, false}
 use mathlib.Core.Option.{none, some}
 use lib.ListN.{length, get_or}
 use borrow.Author.Tests.{lt-ltb}
+use Rattle.std.specs.Prelude.{Option, Some, None}
+use Rattle.std.specs.Bool.{then_some}
 use Rattle.patterns.specs.Term.{Node, nvar, nfun, npow}
 use Rattle.patterns.specs.First.{value}
 use Rattle.patterns.specs.Push.{retag}
@@ -24,8 +26,6 @@ use Rattle.instances.specs.declared.Header.TheVariants.{Variable, Symbol, Power,
 use Rattle.calls.specs.Standing.{left_at}
 use Rattle.calls.specs.Moving.{Behind, SameTerms, moved, Inside, Goes}
 use Rattle.calls.specs.declared.Place.{Place}
-use Rattle.calls.specs.declared.Move.{Move}
-use Rattle.calls.specs.declared.Move.TheVariants.{On, Off}
 use Rattle.matching.specs.Bound.{bindings, state_at, arrived}
 use Rattle.matching.specs.Matching.{Matches}
 use Rattle.matching.proofs.Bound.{left_kept, unbound_term, bound_term, taking, taking_kept, taking_bound}
@@ -61,7 +61,7 @@ module _ (w : List ℕ) (k x : ℕ) (p : Place) where
         ∙ ap₂ (λ (a b : ℕ). some (taken ar (left_at w k (record { node = a - 1; used = b })) 1)) (sym e) (sym f)
 
     module _ {next : Place} (b : Behind w k p next) where
-      pub meet_first : WORDS ≤ length w → k ≤ NODES → x < 64 → word ≡ 0 → Matches k p (nvar x ∷ []) w (taking w x p) (On next)
+      pub meet_first : WORDS ≤ length w → k ≤ NODES → x < 64 → word ≡ 0 → Matches k p (nvar x ∷ []) w (taking w x p) (Some next)
       unfolding arrived step meet Inside
       meet_first long few low z = record {
         told = λ ar E.
@@ -79,33 +79,34 @@ module _ (w : List ℕ) (k x : ℕ) (p : Place) where
         unfolding step meet
         again ar = single_step ar (nvar x) (state_at ar w k p) ∙ ap (λ o. meet ar x o (state_at ar w k p)) (met ar z)
 
-        pub meet_again : r ≡ true → Matches k p (nvar x ∷ []) w w (On next)
+        -- met again, it asks for the same term
+        pub meet_own : Matches k p (nvar x ∷ []) w w (then_some r next)
         unfolding arrived Inside
-        meet_again e = record {
-          told = λ ar E.
-              ap (λ (ms : Left). some (record { rest = ms; bound = bindings ar w k })) (b.told ar E)
-              ∙ sym (again ar ∙ if_pos (left? _ _) (says_true r (s.told ar E) e) _ _);
-          inside = b.inside;
-          kept = kept_self BOUND 128 w;
-        }
-
-        pub meet_other : r ≡ false → Matches k p (nvar x ∷ []) w w Off
-        unfolding arrived Inside
-        meet_other e = record {
-          told = λ ar E. sym (again ar ∙ if_neg (left? _ _) (says_false r (s.told ar E) e) _ _);
-          inside = tt;
-          kept = kept_self BOUND 128 w;
-        }
+        meet_own = go r refl
+          where
+            go : (v : Bool) → r ≡ v → Matches k p (nvar x ∷ []) w w (then_some v next)
+            go true e = record {
+              told = λ ar E.
+                  ap (λ (ms : Left). some (record { rest = ms; bound = bindings ar w k })) (b.told ar E)
+                  ∙ sym (again ar ∙ if_pos (left? _ _) (says_true r (s.told ar E) e) _ _);
+              inside = b.inside;
+              kept = kept_self BOUND 128 w;
+            }
+            go false e = record {
+              told = λ ar E. sym (again ar ∙ if_neg (left? _ _) (says_false r (s.told ar E) e) _ _);
+              inside = tt;
+              kept = kept_self BOUND 128 w;
+            }
 
 -- ---- a symbol, a power, nothing
 
 -- a move that leaves the bindings alone
-on_goes : (ar : ℕ → ℕ) (w : List ℕ) (k : ℕ) (r : Move) → arrived ar w k r ≡ on_at (bindings ar w k) (moved w k r)
+on_goes : (ar : ℕ → ℕ) (w : List ℕ) (k : ℕ) (r : Option Place) → arrived ar w k r ≡ on_at (bindings ar w k) (moved w k r)
 unfolding arrived moved
-on_goes ar w k (On p) = refl
-on_goes ar w k Off = refl
+on_goes ar w k (Some p) = refl
+on_goes ar w k None = refl
 
-module _ {w : List ℕ} {k : ℕ} {p : Place} {r : Move} where
+module _ {w : List ℕ} {k : ℕ} {p : Place} {r : Option Place} where
   pub meets_symbol : (f : ℕ) → Goes w k (under f (left_at w k p)) r → Matches k p (nfun f ∷ []) w w r
   unfolding step
   meets_symbol f g = record {
@@ -122,13 +123,13 @@ module _ {w : List ℕ} {k : ℕ} {p : Place} {r : Move} where
     kept = kept_self BOUND 128 w;
   }
 
-pub meets_nothing : (w : List ℕ) (k : ℕ) (p : Place) → p.node ≤ k → Matches k p [] w w (On p)
+pub meets_nothing : (w : List ℕ) (k : ℕ) (p : Place) → p.node ≤ k → Matches k p [] w w (Some p)
 unfolding arrived walk Inside
 meets_nothing w k p h = record { told = λ ar E. refl; inside = h; kept = kept_self BOUND 128 w }
 
 -- ---- a header
 
-module _ (w v : List ℕ) (k : ℕ) (p : Place) (r : Move) (i : ℕ) where
+module _ (w v : List ℕ) (k : ℕ) (p : Place) (r : Option Place) (i : ℕ) where
   abbrev Meets : List (Node ℕ) → Type 0
   Meets ns = Matches k p ns w v r
 

@@ -10,18 +10,11 @@ ghost use Rattle.instances.specs.Walks.{single, Named};
 ghost use Rattle.calls.specs.Standing.{Spans};
 ghost use Rattle.matching.specs.Matching.{Matches, FitsAt, FirstFit, LastIndex, Tries, SearchesNodes, Searches};
 
-use calls::{Move, Place};
+use calls::Place;
+use instances::Header;
 use instances::fillings::forget;
-use instances::nodes::header_of;
-use instances::{Header, Side, Stand};
+use instances::nodes::Walk;
 use table::{BOUND, EMPTY, FIRST, OFF};
-
-// The smallest index that was found, or that there is none.
-#[derive(Clone, Copy)]
-pub enum Index {
-    At(usize),
-    Nowhere,
-}
 
 // The variable x takes the term at a place.
 fn bind(w: &mut [u64], x: usize, p: Place)
@@ -33,29 +26,26 @@ fn bind(w: &mut [u64], x: usize, p: Place)
 }
 
 // A variable takes the whole term that comes next, and met again it asks for the same term.
-fn meet(w: &mut [u64], k: usize, variable: u16, p: Place) -> Move
+fn meet(w: &mut [u64], k: usize, variable: u16, p: Place) -> Option<Place>
     requires { Spans w.old k 0 × (p.node ≤ k) × (variable < 64) }
     ensures { Matches k p (nvar variable ∷ []) w.old w.new result }
 {
-    let x = variable as usize;
+    let x = usize::from(variable);
     let next = calls::behind(w, k, p);
     let word = w[BOUND + x];
     if word == 0 {
         bind(w, x, p);
-        return Move::On(next);
+        return Some(next);
     }
     let own = Place {
         node: (word - 1) as usize,
         used: w[OFF + x],
     };
-    if calls::same_term(w, k, own, p) {
-        return Move::On(next);
-    }
-    Move::Off
+    calls::same_term(w, k, own, p).then_some(next)
 }
 
 // A node of the pattern at index i.
-fn match_node(w: &mut [u64], k: usize, header: Header, i: u16, p: Place) -> Move
+fn match_node(w: &mut [u64], k: usize, header: Header, i: u16, p: Place) -> Option<Place>
     requires { Spans w.old k 0 × (p.node ≤ k) × Named header }
     ensures { Matches k p (retag (value i) (single header)) w.old w.new result }
 {
@@ -68,10 +58,10 @@ fn match_node(w: &mut [u64], k: usize, header: Header, i: u16, p: Place) -> Move
             b,
             ..
         } => {
-            let n = table::times(a, i) + (b as u64);
+            let n = table::times(a, i) + u64::from(b);
             calls::below(w, k, s, n, p)
         }
-        Header::Missing => Move::On(p),
+        Header::Missing => Some(p),
     }
 }
 
@@ -82,36 +72,34 @@ fn fits_at(book: &[u8], s: &[u8], w: &mut [u64], k: usize, at: usize, i: u16) ->
 {
     forget(w, BOUND);
     let mut place = Place { node: 0, used: 0 };
-    let mut p = Stand { at, pending: 1 };
-    let mut left: usize = 256;
-    while !instances::is_over(p, left) {
-        let header = header_of(book, bits::view(s, p.at), p.at, bits::room(s));
-        let stand = instances::next(header, p.pending);
-        let Move::On(next) = match_node(w, k, header, i, place) else {
+    for header in Walk::new(book, s, at) {
+        let Some(next) = match_node(w, k, header, i, place) else {
             return false;
         };
         place = next;
-        p = stand;
-        left -= 1;
     }
     true
 }
 
 // The first of n indices from i on at which the term at a bit of s matches the call.
-fn first_fit(book: &[u8], s: &[u8], w: &mut [u64], k: usize, at: usize, i: u16, n: u16) -> Index
+fn first_fit(
+    book: &[u8],
+    s: &[u8],
+    w: &mut [u64],
+    k: usize,
+    at: usize,
+    i: u16,
+    n: u16,
+) -> Option<usize>
     requires { Spans w.old k 0 × (i + n ≤ 8192) }
     ensures { FirstFit book.now s.now k at i n w.old w.new result }
 {
-    let mut index = i;
-    let mut more = n;
-    while more > 0 {
+    for index in i..i + n {
         if fits_at(book, s, w, k, at, index) {
-            return Index::At(index as usize);
+            return Some(usize::from(index));
         }
-        index += 1;
-        more -= 1;
     }
-    Index::Nowhere
+    None
 }
 
 // The last index that is worth a try, the largest number of the call's powers; no call has one above 4,095.
@@ -119,11 +107,7 @@ fn last_index(w: &[u64], k: usize) -> u16
     requires { (WORDS ≤ length w.now) × (k ≤ NODES) }
     ensures { LastIndex k w.now result }
 {
-    let most = calls::largest(w, k);
-    if most > 4095 {
-        return 4095;
-    }
-    most as u16
+    calls::largest(w, k).min(4095) as u16
 }
 
 // How many indices from α on are worth a try: one where the pattern at a bit has no index.
@@ -134,15 +118,18 @@ fn tries(book: &[u8], s: &[u8], w: &[u64], k: usize, at: usize, alpha: u16) -> u
     if instances::level(book, s, at) {
         return 1;
     }
-    let last = last_index(w, k);
-    if last < alpha {
-        return 0;
-    }
-    last - alpha + 1
+    (last_index(w, k) + 1).saturating_sub(alpha)
 }
 
 // The search for a call whose k nodes stand in the table.
-fn search_nodes(book: &[u8], s: &[u8], w: &mut [u64], k: usize, at: usize, alpha: u16) -> Index
+fn search_nodes(
+    book: &[u8],
+    s: &[u8],
+    w: &mut [u64],
+    k: usize,
+    at: usize,
+    alpha: u16,
+) -> Option<usize>
     requires { (WORDS ≤ length w.old) × (k ≤ NODES) × (alpha ≤ 4095) }
     ensures { SearchesNodes book.now s.now k at alpha w.old w.new result }
 {
@@ -159,13 +146,11 @@ pub fn search(
     w: &mut [u64],
     at: usize,
     alpha: u16,
-) -> Index
+) -> Option<usize>
     requires { (WORDS ≤ length w.old) × (alpha ≤ 4095) }
     ensures { Searches book.now certificate.now call.now at alpha w.old w.new result }
 {
     forget(w, EMPTY);
-    match instances::build(book, call, call, w, FIRST, 0, 1, 0, EMPTY) {
-        Side::Full => Index::Nowhere,
-        Side::Done { nodes: k, .. } => search_nodes(book, certificate, w, k, at, alpha),
-    }
+    let side = instances::build(book, call, call, w, FIRST, 0, 1, 0, EMPTY)?;
+    search_nodes(book, certificate, w, side.nodes, at, alpha)
 }

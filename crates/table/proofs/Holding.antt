@@ -13,6 +13,7 @@ use Rattle.table.specs.Nodes.{node_of, stack, side, load}
 use Rattle.table.specs.Sides.{node_told, Coded}
 use Rattle.table.specs.Second.{none, PartsNext, PowerPartsNext, Parts, Tallied, Tracks, rests, waits, AtRest, Came, CameOne, Amounts, Concludes}
 use Rattle.table.specs.declared.Held.{Held}
+use Rattle.table.specs.declared.Triple.{Triple}
 use Rattle.table.specs.declared.Item.{Item}
 use Rattle.table.specs.declared.Item.TheVariants.{Plain, Power}
 use Rattle.table.specs.declared.Outcome.{Outcome}
@@ -24,25 +25,26 @@ use Rattle.table.proofs.Parting.{parts_low, parts_none, parts_some}
 
 -- ---- none has come
 
-pub held_none : (w : List ℕ) (base n : ℕ) → Tracks w base n (record { nodes = 0; parts = n; code = 0; a = 0; b = 0 }) []
+pub held_none : (w : List ℕ) (base n : ℕ) {h : Held} → h.nodes ≡ 0 → h.parts ≡ n → h.power.code ≡ 0 → Tracks w base n h []
 unfolding put
-held_none w base n = rests refl (λ s e. refl) (record { nodes = refl; parts = none refl })
+held_none w base n few all rest = rests rest (λ s e. refl) (record { nodes = few; parts = none all })
 
 -- ---- a power is settled
 
 module _ {w : List ℕ} {base : ℕ} {h : Held} where
-  pub rest_none : h.code ≡ 0 → AtRest w base h h
+  pub rest_none : h.power.code ≡ 0 → AtRest w base h h
   rest_none z = record { told = go; none = z; low = omega arith; few = omega arith; light = omega arith }
     where
       go : (n : ℕ) (ns : List (Node Exp)) → Tracks w base n h ns → Tallied w base n ns h
       go n ns (rests e f c) = c
       go n ns (waits s e q c) = absurd (omega arith)
 
-  pub rest_power : {p : ℕ} → ¬ (h.code ≡ 0) → PowerPartsNext w base h.nodes h.parts h.code h.a h.b p
-      → AtRest w base h (record { nodes = h.nodes + 1; parts = p; code = 0; a = 0; b = 0 })
-  rest_power {p} z k = record { told = go; none = refl; low = k.low; few = omega arith; light = omega arith }
+  -- where v are the words for no power
+  pub rest_power : {p : ℕ} {v : Triple} → ¬ (h.power.code ≡ 0) → PowerPartsNext w base h.nodes h.parts h.power.code h.power.a h.power.b p
+      → v.code ≡ 0 → v.a ≡ 0 → v.b ≡ 0 → AtRest w base h (record { nodes = h.nodes + 1; parts = p; power = v })
+  rest_power {p} {v} z k o x y = record { told = go; none = o; low = k.low; few = omega arith; light = omega arith }
     where
-      go : (n : ℕ) (ns : List (Node Exp)) → Tracks w base n h ns → Tallied w base n ns (record { nodes = h.nodes + 1; parts = p; code = 0; a = 0; b = 0 })
+      go : (n : ℕ) (ns : List (Node Exp)) → Tracks w base n h ns → Tallied w base n ns (record { nodes = h.nodes + 1; parts = p; power = v })
       go n ns (rests e f c) = absurd (z e)
       go n ns (waits {ms = ms} s e q c) = record {
         nodes = omega (arith, c.nodes, ap length q);
@@ -53,7 +55,7 @@ module _ {w : List ℕ} {base : ℕ} {h : Held} where
 
 module _ {w : List ℕ} {base : ℕ} {h : Held} where
   pub comes_plain : (code : ℕ) {k : Held} {p : ℕ} → AtRest w base h k → ¬ (code % 3 ≡ 2) → PartsNext w base k.nodes k.parts (node_of code 0 0) p
-      → CameOne w base (node_of code 0 0) h (record { nodes = k.nodes + 1; parts = p; code = k.code; a = k.a; b = k.b })
+      → CameOne w base (node_of code 0 0) h (record { nodes = k.nodes + 1; parts = p; power = k.power })
   unfolding pushes
   comes_plain code {k} {p} z c g = record {
     came = record {
@@ -80,8 +82,8 @@ module _ {w : List ℕ} {base : ℕ} {h : Held} where
     }
 
     module _ (some : ¬ (a + b ≡ 0)) where
-      added : (n : ℕ) (ns : List (Node Exp)) → h.code ≡ 3 * s + 2 → Tracks w base n h ns
-          → Tracks w base n (record { nodes = h.nodes; parts = h.parts; code = 3 * s + 2; a = h.a + a; b = h.b + b }) (push exponents ns (npow s (a, b)))
+      added : (n : ℕ) (ns : List (Node Exp)) → h.power.code ≡ 3 * s + 2 → Tracks w base n h ns
+          → Tracks w base n (record { nodes = h.nodes; parts = h.parts; power = record { code = 3 * s + 2; a = h.power.a + a; b = h.power.b + b } }) (push exponents ns (npow s (a, b)))
       added n ns q (rests e f c) = absurd (omega arith)
       added n ns q (waits {ms = ms} r e o c) =
           let like : 3 * r + 2 ≡ 3 * s + 2 = omega arith in
@@ -89,15 +91,15 @@ module _ {w : List ℕ} {base : ℕ} {h : Held} where
           (push_some ns s a b some ∙ ap (put exponents s (a, b)) o ∙ put_like s a b ms (is_pow r refl) like)
           (record { nodes = c.nodes; parts = c.parts })
 
-      pub comes_added : h.code ≡ 3 * s + 2
-          → CameOne w base (npow s (a, b)) h (record { nodes = h.nodes; parts = h.parts; code = 3 * s + 2; a = h.a + a; b = h.b + b })
+      pub comes_added : h.power.code ≡ 3 * s + 2
+          → CameOne w base (npow s (a, b)) h (record { nodes = h.nodes; parts = h.parts; power = record { code = 3 * s + 2; a = h.power.a + a; b = h.power.b + b } })
       unfolding pushes load
       comes_added q = record {
         came = record { told = λ n ns x. added n ns q x; low = omega arith; light = omega arith };
         few = omega arith;
       }
 
-      apart : (n : ℕ) (ns : List (Node Exp)) → ¬ (h.code ≡ 3 * s + 2) → Tracks w base n h ns → push exponents ns (npow s (a, b)) ≡ npow s (a, b) ∷ ns
+      apart : (n : ℕ) (ns : List (Node Exp)) → ¬ (h.power.code ≡ 3 * s + 2) → Tracks w base n h ns → push exponents ns (npow s (a, b)) ≡ npow s (a, b) ∷ ns
       apart n ns d (rests e f c) = push_some ns s a b some ∙ f s (a, b)
       apart n ns d (waits {ms = ms} r e o c) =
           push_some ns s a b some
@@ -105,8 +107,8 @@ module _ {w : List ℕ} {base : ℕ} {h : Held} where
           ∙ put_other s (a, b) ms (is_pow r refl) (λ z. d (e ∙ z))
           ∙ ap (λ l. npow s (a, b) ∷ l) (sym o)
 
-      pub comes_kept : {k : Held} → ¬ (h.code ≡ 3 * s + 2) → AtRest w base h k
-          → CameOne w base (npow s (a, b)) h (record { nodes = k.nodes; parts = k.parts; code = 3 * s + 2; a = a; b = b })
+      pub comes_kept : {k : Held} → ¬ (h.power.code ≡ 3 * s + 2) → AtRest w base h k
+          → CameOne w base (npow s (a, b)) h (record { nodes = k.nodes; parts = k.parts; power = record { code = 3 * s + 2; a = a; b = b } })
       unfolding pushes load
       comes_kept {k} d z = record {
         came = record {

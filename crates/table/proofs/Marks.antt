@@ -19,24 +19,23 @@ use Rattle.table.specs.Nodes.{stack, side}
 use Rattle.table.specs.Sides.{Stacked, Pushes}
 use Rattle.table.specs.Marks.{mark_nodes, form_nodes, Built}
 use Rattle.table.specs.Second.{Amounts}
-use Rattle.table.specs.declared.Pushed.{Pushed}
-use Rattle.table.specs.declared.Pushed.TheVariants.{Count, NoRoom}
+use Rattle.std.specs.Prelude.{Option, Some, None}
 use Rattle.table.specs.declared.Outcome.TheVariants.{Same, Other, Full}
 use Rattle.table.proofs.Nodes.{side_length}
 
 -- ---- what is built
 
-pub built_empty : (base : ℕ) (w : List ℕ) → Built base none w (Count 0)
+pub built_empty : (base : ℕ) (w : List ℕ) → Built base none w (Some 0)
 unfolding Built mark_nodes side stack
 built_empty base w = (omega arith, refl)
 
-turned : (base : ℕ) (ns : List (Node Exp)) (m : Mark Exp) (v : List ℕ) (r : Pushed) → reverse ns ≡ form_nodes m → Stacked base ns v r → Built base m v r
+turned : (base : ℕ) (ns : List (Node Exp)) (m : Mark Exp) (v : List ℕ) (r : Option ℕ) → reverse ns ≡ form_nodes m → Stacked base ns v r → Built base m v r
 unfolding Stacked Built side
-turned base ns m v (Count k) e h = (h.0, ap reverse h.1 ∙ e)
-turned base ns m v NoRoom e h = omega (arith, length-reverse ns, ap length e)
+turned base ns m v (Some k) e h = (h.0, ap reverse h.1 ∙ e)
+turned base ns m v None e h = omega (arith, length-reverse ns, ap length e)
 
 -- nodes that give a normal form, pushed on an empty side
-pub built_form : (base : ℕ) (w v : List ℕ) (r : Pushed) (m : Mark Exp) (ms : List (Node Exp)) → reverse (pushes exponents [] ms) ≡ form_nodes m
+pub built_form : (base : ℕ) (w v : List ℕ) (r : Option ℕ) (m : Mark Exp) (ms : List (Node Exp)) → reverse (pushes exponents [] ms) ≡ form_nodes m
     → Pushes base 0 ms w v r → Built base m v r
 unfolding stack
 built_form base w v r m ms e p = turned base (pushes exponents [] ms) m v r e p.holds
@@ -49,11 +48,11 @@ form_length none = refl
 form_length (some t) = length_nodes (form one t)
 
 -- 01: "A side whose normal form has more than 1,024 nodes is refused with 16"
-pub built_small : (base k : ℕ) (m : Mark Exp) (v : List ℕ) → Built base m v (Count k) → Met one (small m)
+pub built_small : (base k : ℕ) (m : Mark Exp) (v : List ℕ) → Built base m v (Some k) → Met one (small m)
 unfolding Built Met
 built_small base k m v b = omega (arith, form_length m, side_length v base k, ap length b.1, b.0)
 
-pub built_large : (base : ℕ) (m : Mark Exp) (v : List ℕ) → Built base m v NoRoom → ¬ (Met one (small m))
+pub built_large : (base : ℕ) (m : Mark Exp) (v : List ℕ) → Built base m v None → ¬ (Met one (small m))
 unfolding Built Met
 built_large base m v b s = omega (arith, form_length m, b)
 
@@ -77,7 +76,7 @@ module _ (ar : ℕ → ℕ) where
       ap some (nodes_inj ar (form one t) (form one u) (formed_norm ar exponents t p) (formed_norm ar exponents u q) e)
 
   -- a second side of the nodes of k beside the stored ones of m settles whether they are the same
-  module _ (base n : ℕ) (m k : Mark Exp) (w : List ℕ) (p : OnMark (Formed ar) m) (q : OnMark (Formed ar) k) (x : Built base m w (Count n)) where
+  module _ (base n : ℕ) (m k : Mark Exp) (w : List ℕ) (p : OnMark (Formed ar) m) (q : OnMark (Formed ar) k) (x : Built base m w (Some n)) where
     pub amounts_same : Amounts (side w base n) (form_nodes k) Same → Met one (small k) × Met one (same m k)
     unfolding Amounts Met Built
     amounts_same c = (omega (arith, form_length k, c.0), marks_same m k p q (sym x.1 ∙ c.1))

@@ -2,7 +2,7 @@
 use Prim.Native.Nat.{ℕ, ◌+◌, ◌*◌, ◌%◌, ◌≤◌, ◌<◌}
 use mathlib.Core.Path.{◌≡◌, refl, sym, ap, ap₂, subst, ◌∙◌}
 use mathlib.Core.Logic.{◌≢◌}
-use mathlib.Core.Bool.{Bool, true, false}
+use mathlib.Core.Bool.{Bool, true, false, ◌&&◌}
 use mathlib.Core.List.{List, [], ◌∷◌}
 use native.Mathlib.Decide.{ℕ_discrete}
 use native.Mathlib.Omega.{arith}
@@ -75,7 +75,7 @@ module _ {w : List ℕ} {base k p code : ℕ} where
 -- ---- a power, by its three words
 
 module _ (w : List ℕ) (at code a b : ℕ) where
-  pub word_other : ¬ (get_or w at 0 ≡ code) → IsPower w at code a b false
+  word_other : ¬ (get_or w at 0 ≡ code) → IsPower w at code a b false
   unfolding Says node_at
   word_other d = record { told = λ s e z. code_other _ _ _ _ a b d (z ∙ sym (pow_told s a b) ∙ ap (λ c. node_of c a b) (sym e)) }
 
@@ -87,17 +87,27 @@ module _ (w : List ℕ) (at code a b : ℕ) where
     numbers : (s : ℕ) → code ≡ 3 * s + 2 → node_at w at ≡ npow s (a, b) → ◌≡◌ {A = Exp} (get_or w (at + 1) 0, get_or w (at + 2) 0) (a, b)
     numbers s e z = cc (told_so s e)
 
-    pub first_other : ¬ (get_or w (at + 1) 0 ≡ a) → IsPower w at code a b false
+    first_other : ¬ (get_or w (at + 1) 0 ≡ a) → IsPower w at code a b false
     unfolding Says
     first_other d = record { told = λ s e z. d (ap (λ (x : Exp). x.0) (numbers s e z)) }
 
-    pub second_told : get_or w (at + 1) 0 ≡ a → IsPower w at code a b (eqb (get_or w (at + 2) 0) b)
+    second_told : get_or w (at + 1) 0 ≡ a → IsPower w at code a b (eqb (get_or w (at + 2) 0) b)
     unfolding Says
     second_told f = record { told = λ s e. go s e (ℕ_discrete (get_or w (at + 2) 0) b) }
       where
         go : (s : ℕ) → code ≡ 3 * s + 2 → Dec (get_or w (at + 2) 0 ≡ b) → Says (node_at w at ≡ npow s (a, b)) (eqb (get_or w (at + 2) 0) b)
         go s e (yes g) = rw (eq-eqb _ _ g) (told_so s e ∙ ap (npow s) (pair_path f g))
         go s e (no g) = rw (ne_eqb _ _ g) (λ z. g (ap (λ (x : Exp). x.1) (numbers s e z)))
+
+  -- that is what `==` tells of the three words
+  pub words_told : {r : Bool} → r ≡ (eqb (get_or w at 0) code && (eqb (get_or w (at + 1) 0) a && eqb (get_or w (at + 2) 0) b)) → IsPower w at code a b r
+  words_told {r} e = rw e (go (ℕ_discrete (get_or w at 0) code) (ℕ_discrete (get_or w (at + 1) 0) a))
+    where
+      go : Dec (get_or w at 0 ≡ code) → Dec (get_or w (at + 1) 0 ≡ a)
+          → IsPower w at code a b (eqb (get_or w at 0) code && (eqb (get_or w (at + 1) 0) a && eqb (get_or w (at + 2) 0) b))
+      go (yes p) (yes q) = rw (eq-eqb _ _ p, eq-eqb _ _ q) (second_told p q)
+      go (yes p) (no q) = rw (eq-eqb _ _ p, ne_eqb _ _ q) (first_other p q)
+      go (no p) d = rw (ne_eqb _ _ p) (word_other p)
 
 module _ {w : List ℕ} {base k p code a b : ℕ} where
   pub power_before : p ≤ k → PowerPartsNext w base k p code a b p

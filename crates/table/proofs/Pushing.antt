@@ -16,23 +16,22 @@ use Rattle.table.specs.Nodes.{node_of, node_at, with_node, stack, top_code, load
 use Rattle.table.specs.Sides.{node_told, Coded, Room, Stacked, Became, Pushes}
 use Rattle.table.specs.declared.Item.{Item}
 use Rattle.table.specs.declared.Item.TheVariants.{Plain, Power}
-use Rattle.table.specs.declared.Pushed.{Pushed}
-use Rattle.table.specs.declared.Pushed.TheVariants.{Count, NoRoom}
+use Rattle.std.specs.Prelude.{Option, Some, None}
 use Rattle.table.proofs.Nodes.{TellsNode, is_var, is_fun, is_pow, tells, pow_told, stack_length}
 use Rattle.table.proofs.Writes.{kept_self, with_stack, with_kept}
 
-pub became_as : {base : ℕ} {ns ms : List (Node Exp)} {w v : List ℕ} {r : Pushed} → ns ≡ ms → Became base ns w v r → Became base ms w v r
+pub became_as : {base : ℕ} {ns ms : List (Node Exp)} {w v : List ℕ} {r : Option ℕ} → ns ≡ ms → Became base ns w v r → Became base ms w v r
 became_as {base} {ns} {ms} {w} {v} {r} e b = subst (λ l. Became base l w v r) e b
 
 -- ---- a node stored
 
 module _ (w : List ℕ) (base n code a b : ℕ) (room : Room base n w) where
-  pub store_full : n ≡ NODES → Became base (node_of code a b ∷ stack w base n) w w NoRoom
+  pub store_full : n ≡ NODES → Became base (node_of code a b ∷ stack w base n) w w None
   unfolding Stacked
   store_full h = record { holds = omega (arith, stack_length w base n); kept = kept_self base SIDE w }
 
   pub store_one : (v : List ℕ) → (n ≡ NODES → ⊥) → v ≡ with_node w (base + 3 * n) code a b
-      → Became base (node_of code a b ∷ stack w base n) w v (Count (n + 1))
+      → Became base (node_of code a b ∷ stack w base n) w v (Some (n + 1))
   unfolding Stacked
   store_one v h e =
       let less : n < NODES = omega (arith, room.few) in
@@ -97,13 +96,13 @@ push_other w base (suc n) s a b h k =
     ∙ sym (push_some _ s a b h ∙ put_other s (a, b) (stack w base n) (tells _ _ _) k)
 
 -- dropped
-pub push_dropped : (w : List ℕ) (base n s a b : ℕ) → n ≤ NODES → a + b ≡ 0 → Pushes base n (npow s (a, b) ∷ []) w w (Count n)
+pub push_dropped : (w : List ℕ) (base n s a b : ℕ) → n ≤ NODES → a + b ≡ 0 → Pushes base n (npow s (a, b) ∷ []) w w (Some n)
 unfolding Stacked pushes
 push_dropped w base n s a b few h =
     record { holds = (few, sym (push_none (stack w base n) s a b h)); kept = kept_self base SIDE w }
 
 -- stored
-pub push_stored : (w v : List ℕ) (base n s a b : ℕ) (r : Pushed) → (a + b ≡ 0 → ⊥) → (top_code w base n ≡ 3 * s + 2 → ⊥)
+pub push_stored : (w v : List ℕ) (base n s a b : ℕ) (r : Option ℕ) → (a + b ≡ 0 → ⊥) → (top_code w base n ≡ 3 * s + 2 → ⊥)
     → Became base (node_of (3 * s + 2) a b ∷ stack w base n) w v r → Pushes base n (npow s (a, b) ∷ []) w v r
 unfolding pushes
 push_stored w v base n s a b r h k g = became_as (push_other w base n s a b h k) g
@@ -119,7 +118,7 @@ like_pushed w base n s a b k h =
 
 pub push_added : (w v : List ℕ) (base n s a b : ℕ) → Room base n w → (a + b ≡ 0 → ⊥) → top_code w base n ≡ 3 * s + 2
     → v ≡ with_node w (base + 3 * (n - 1)) (3 * s + 2) (get_or w (base + 3 * (n - 1) + 1) 0 + a) (get_or w (base + 3 * (n - 1) + 2) 0 + b)
-    → Pushes base n (npow s (a, b) ∷ []) w v (Count n)
+    → Pushes base n (npow s (a, b) ∷ []) w v (Some n)
 unfolding top_code Stacked pushes
 push_added w v base zero s a b room h k e = absurd (omega arith)
 push_added w v base (suc n) s a b room h k e =
@@ -146,7 +145,7 @@ plain_rests ns t h s e = put_other s e ns t (λ z. h (omega arith))
 
 -- ---- any node
 
-module _ (w v : List ℕ) (base n : ℕ) (r : Pushed) (m : Item) where
+module _ (w v : List ℕ) (base n : ℕ) (r : Option ℕ) (m : Item) where
   pub push_plain : (code : ℕ) → m ≡ Plain code → Coded m → Became base (node_of code 0 0 ∷ stack w base n) w v r → Pushes base n (node_told m ∷ []) w v r
   unfolding node_told Coded pushes
   push_plain code e h g = let k : ¬ (code % 3 ≡ 2) = rw e at h in rw e (became_as (sym (plain_pushed (stack w base n) (tells code 0 0) k)) g)

@@ -7,8 +7,7 @@ use Rattle.patterns.specs.Certificate.{Mark}
 use Rattle.patterns.specs.First.{Exp, one}
 use Rattle.table.specs.Places.{NODES}
 use Rattle.table.specs.Nodes.{side}
-use Rattle.table.specs.declared.Pushed.{Pushed}
-use Rattle.table.specs.declared.Pushed.TheVariants.{Count, NoRoom}
+use Rattle.std.specs.Prelude.{Option, Some, None}
 
 -- 01: "The empty mark has no nodes"
 unfoldable pub mark_nodes : Mark Exp → List (Node Exp)
@@ -20,6 +19,6 @@ abbrev pub form_nodes : Mark Exp → List (Node Exp)
 form_nodes m = mark_nodes (map (form one) m)
 
 -- the nodes of the normal form stand at `base`, or there are more than 1,024
-unfoldable pub Built : ℕ → Mark Exp → List ℕ → Pushed → Type 0
-Built base m after (Count k) = (k ≤ NODES) × (side after base k ≡ form_nodes m)
-Built base m after NoRoom = NODES < length (form_nodes m)
+unfoldable pub Built : ℕ → Mark Exp → List ℕ → Option ℕ → Type 0
+Built base m after (Some k) = (k ≤ NODES) × (side after base k ≡ form_nodes m)
+Built base m after None = NODES < length (form_nodes m)

@@ -48,23 +48,23 @@ pub record Tallied (w : List ℕ) (base n : ℕ) (ns : List (Node Exp)) (h : Hel
 -- the nodes that have come, merged, are those of a stack: all are settled, and a power that comes next is a node of its own; or all but a power on
 -- top, that waits for its like
 pub data Tracks (w : List ℕ) (base n : ℕ) (h : Held) : List (Node Exp) → Type 0 where
-  rests : {ns : List (Node Exp)} → h.code ≡ 0 → Closed ns → Tallied w base n ns h
+  rests : {ns : List (Node Exp)} → h.power.code ≡ 0 → Closed ns → Tallied w base n ns h
       → Tracks w base n h ns
-  waits : {ns ms : List (Node Exp)} (s : ℕ) → h.code ≡ 3 * s + 2 → ns ≡ npow s (h.a, h.b) ∷ ms → Tallied w base n ms h → Tracks w base n h ns
+  waits : {ns ms : List (Node Exp)} (s : ℕ) → h.power.code ≡ 3 * s + 2 → ns ≡ npow s (h.power.a, h.power.b) ∷ ms → Tallied w base n ms h → Tracks w base n h ns
 
 -- no power waits any more
 pub record AtRest (w : List ℕ) (base : ℕ) (h r : Held) : Type 0 where
   pub told : (n : ℕ) (ns : List (Node Exp)) → Tracks w base n h ns → Tallied w base n ns r
-  pub none : r.code ≡ 0
+  pub none : r.power.code ≡ 0
   pub low : r.parts ≤ h.parts
   pub few : r.nodes ≤ h.nodes + 1
-  pub light : r.a + r.b ≤ h.a + h.b
+  pub light : r.power.a + r.power.b ≤ h.power.a + h.power.b
 
 -- the nodes ms have come, one after the other
 pub record Came (w : List ℕ) (base : ℕ) (ms : List (Node Exp)) (h r : Held) : Type 0 where
   pub told : (n : ℕ) (ns : List (Node Exp)) → Tracks w base n h ns → Tracks w base n r (pushes exponents ns ms)
   pub low : r.parts ≤ h.parts
-  pub light : r.a + r.b ≤ h.a + h.b + load ms
+  pub light : r.power.a + r.power.b ≤ h.power.a + h.power.b + load ms
 
 -- one node has come, and settled at most a power and itself
 pub record CameOne (w : List ℕ) (base : ℕ) (m : Node Exp) (h r : Held) : Type 0 where

@@ -7,8 +7,7 @@ use Rattle.table.specs.Places.{SIDE, NODES}
 use Rattle.table.specs.Nodes.{node_of, stack, load}
 use Rattle.table.specs.declared.Item.{Item}
 use Rattle.table.specs.declared.Item.TheVariants.{Plain, Power}
-use Rattle.table.specs.declared.Pushed.{Pushed}
-use Rattle.table.specs.declared.Pushed.TheVariants.{Count, NoRoom}
+use Rattle.std.specs.Prelude.{Option, Some, None}
 
 -- the node that the code hands over
 unfoldable pub node_told : Item → Node Exp
@@ -38,15 +37,15 @@ pub record Kept (base room : ℕ) (w after : List ℕ) : Type 0 where
   pub high : (k : ℕ) → base + room ≤ k → get_or after k 0 ≡ get_or w k 0
 
 -- the answer for a stack that is wanted: it stands at `base`, or has more than 1,024 nodes
-unfoldable pub Stacked : ℕ → List (Node Exp) → List ℕ → Pushed → Type 0
-Stacked base wanted after (Count k) = (k ≤ NODES) × (stack after base k ≡ wanted)
-Stacked base wanted after NoRoom = NODES < length wanted
+unfoldable pub Stacked : ℕ → List (Node Exp) → List ℕ → Option ℕ → Type 0
+Stacked base wanted after (Some k) = (k ≤ NODES) × (stack after base k ≡ wanted)
+Stacked base wanted after None = NODES < length wanted
 
 -- the side at `base` became the stack that is wanted, or has no room for it, and nothing else has changed
-pub record Became (base : ℕ) (wanted : List (Node Exp)) (w after : List ℕ) (r : Pushed) : Type 0 where
+pub record Became (base : ℕ) (wanted : List (Node Exp)) (w after : List ℕ) (r : Option ℕ) : Type 0 where
   pub holds : Stacked base wanted after r
   pub kept : Kept base SIDE w after
 
 -- the nodes ms were pushed, one after the other, on a side of n nodes
-abbrev pub Pushes : ℕ → ℕ → List (Node Exp) → List ℕ → List ℕ → Pushed → Type 0
+abbrev pub Pushes : ℕ → ℕ → List (Node Exp) → List ℕ → List ℕ → Option ℕ → Type 0
 Pushes base n ms w after r = Became base (pushes exponents (stack w base n) ms) w after r

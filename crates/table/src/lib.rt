@@ -46,22 +46,21 @@ pub enum Item {
     Power { symbol: u16, a: u64, b: u64 },
 }
 
-// How many nodes the side holds after a push, or that it would have to hold more than 1,024.
-#[derive(Clone, Copy)]
-pub enum Pushed {
-    Count(usize),
-    NoRoom,
+// The three words of a stored node: its kind and its name, and the numbers a and b of a power.
+#[derive(Clone, Copy, Default, PartialEq, Eq)]
+pub struct Triple {
+    pub code: u64,
+    pub a: u64,
+    pub b: u64,
 }
 
 // How far a second side has come: how many nodes are settled; the number of the first of them that differs from the stored node of the same
 // number, or how many are stored; and the words of the power that waits, the first of them 0 where none does.
-#[derive(Clone, Copy)]
+#[derive(Clone, Copy, Default)]
 pub struct Held {
     pub nodes: usize,
     pub parts: usize,
-    pub code: u64,
-    pub a: u64,
-    pub b: u64,
+    pub power: Triple,
 }
 
 // What a second side amounts to: the nodes that are stored, others, or more than 1,024.
@@ -91,25 +90,26 @@ pub fn reindexed(s: u16, a: u16, b: u16, i: u16, j: u16) -> Item
 }
 
 // The three words of a node.
-fn write_node(w: &mut [u64], p: usize, code: u64, a: u64, b: u64)
+fn write_node(w: &mut [u64], p: usize, node: Triple)
     requires { p + 3 ≤ length w.old }
-    ensures { w.new ≡ with_node w.old p code a b }
+    ensures { w.new ≡ with_node w.old p node.code node.a node.b }
 {
-    w[p] = code;
-    w[p + 1] = a;
-    w[p + 2] = b;
+    w[p] = node.code;
+    w[p + 1] = node.a;
+    w[p + 2] = node.b;
 }
 
-// One node more, stored behind n others.
-fn store(w: &mut [u64], base: usize, n: usize, code: u64, a: u64, b: u64) -> Pushed
+// One node more, stored behind n others. The answer of this push, and of every other, is how many nodes the side holds then, or nothing where it
+// would have to hold more than 1,024.
+fn store(w: &mut [u64], base: usize, n: usize, node: Triple) -> Option<usize>
     requires { Room base n w.old }
-    ensures { Became base (node_of code a b ∷ stack w.old base n) w.old w.new result }
+    ensures { Became base (node_of node.code node.a node.b ∷ stack w.old base n) w.old w.new result }
 {
     if n == NODES {
-        return Pushed::NoRoom;
+        return None;
     }
-    write_node(w, base + 3 * n, code, a, b);
-    Pushed::Count(n + 1)
+    write_node(w, base + 3 * n, node);
+    Some(n + 1)
 }
 
 // The first word of the last node, 0 where there is none.
@@ -124,76 +124,71 @@ fn top_code(w: &[u64], base: usize, n: usize) -> u64
 }
 
 // A power: dropped if it counts nothing, added to the last node if that is a power of the same symbol.
-fn push_power(w: &mut [u64], base: usize, n: usize, s: u16, a: u64, b: u64) -> Pushed
+fn push_power(w: &mut [u64], base: usize, n: usize, s: u16, a: u64, b: u64) -> Option<usize>
     requires room { Room base n w.old }
     requires n_bound { a + b + load (stack w.old base n) < 2 ^ 64 }
     ensures { Pushes base n (npow s (a, b) ∷ []) w.old w.new result }
 {
     if a + b == 0 {
-        return Pushed::Count(n);
+        return Some(n);
     }
     let code = 3 * (s as u64) + 2;
     if top_code(w, base, n) == code {
         let at = base + 3 * (n - 1);
         let more_a = w[at + 1] + a;
         let more_b = w[at + 2] + b;
-        write_node(w, at, code, more_a, more_b);
-        return Pushed::Count(n);
+        write_node(
+            w,
+            at,
+            Triple {
+                code,
+                a: more_a,
+                b: more_b,
+            },
+        );
+        return Some(n);
     }
-    store(w, base, n, code, a, b)
+    store(w, base, n, Triple { code, a, b })
 }
 
 // A node pushed on a side that holds n.
-pub fn push(w: &mut [u64], base: usize, n: usize, node: Item) -> Pushed
+pub fn push(w: &mut [u64], base: usize, n: usize, node: Item) -> Option<usize>
     requires room { Room base n w.old }
     requires n_bound { (load (node_told node ∷ stack w.old base n) < 2 ^ 64) × Coded node }
     ensures { Pushes base n (node_told node ∷ []) w.old w.new result }
 {
     match node {
-        Item::Plain(code) => store(w, base, n, code, 0, 0),
+        Item::Plain(code) => store(w, base, n, Triple { code, a: 0, b: 0 }),
         Item::Power { symbol: s, a, b } => push_power(w, base, n, s, a, b),
     }
 }
 
 // Whether nothing merges with the last of n nodes: it is no power, or there is none.
+#[tactic(auto, using(crate::proofs::Repeats::closed_plain))]
 pub fn is_closed(w: &[u64], base: usize, n: usize) -> bool
     requires { Room base n w.now }
     ensures { Assures (Closed (stack w.now base n)) result }
 {
-    if top_code(w, base, n) % 3 == 2 {
-        return false;
-    }
-    true
+    top_code(w, base, n) % 3 != 2
 }
 
 // The `count` nodes from number `from` on once more, behind n others.
-pub fn copy(w: &mut [u64], base: usize, n: usize, from: usize, count: usize) -> Pushed
+pub fn copy(w: &mut [u64], base: usize, n: usize, from: usize, count: usize) -> Option<usize>
     requires room { Room base n w.old }
     requires count_bound { from + count ≤ n }
     ensures { Became base (part w.old base from count ++ stack w.old base n) w.old w.new result }
 {
     if n + count > NODES {
-        return Pushed::NoRoom;
+        return None;
     }
-    let mut k: usize = 0;
-    while k < count {
-        let at = base + 3 * (from + k);
-        let code = w[at];
-        let a = w[at + 1];
-        let b = w[at + 2];
-        write_node(w, base + 3 * (n + k), code, a, b);
-        k += 1;
-    }
-    Pushed::Count(n + count)
+    let start = base + 3 * from;
+    w.copy_within(start..start + 3 * count, base + 3 * n);
+    Some(n + count)
 }
 
 // Every word 0.
 pub fn clear(w: &mut [u64])
     ensures { w.new ≡ replicate (length w.old) 0 }
 {
-    let mut k = w.len();
-    while k > 0 {
-        k -= 1;
-        w[k] = 0;
-    }
+    w.fill(0);
 }

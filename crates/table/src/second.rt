@@ -9,39 +9,30 @@ ghost use Rattle.table.specs.Answer.{Assures};
 ghost use Rattle.table.specs.Repeats.{part};
 ghost use Rattle.table.specs.Second.{IsPower, PartsNext, PowerPartsNext, AtRest, CameOne, Concludes};
 
-use crate::{Held, Item, NODES, Outcome};
+use crate::{Held, Item, NODES, Outcome, Triple};
 
 // Whether the node at a place is the power that three words tell.
-fn is_power(w: &[u64], p: usize, code: u64, a: u64, b: u64) -> bool
+fn is_power(w: &[u64], p: usize, power: Triple) -> bool
     requires { p + 3 ≤ length w.now }
-    ensures { IsPower w.now p code a b result }
+    ensures { IsPower w.now p power.code power.a power.b result }
 {
-    if w[p] != code {
-        return false;
-    }
-    if w[p + 1] != a {
-        return false;
-    }
-    w[p + 2] == b
+    let stored = Triple {
+        code: w[p],
+        a: w[p + 1],
+        b: w[p + 2],
+    };
+    stored == power
 }
 
 // The number of the first node that differs, where those before k part at `parts`, and number k is a power.
-fn parts_by_power(
-    w: &[u64],
-    base: usize,
-    k: usize,
-    parts: usize,
-    code: u64,
-    a: u64,
-    b: u64,
-) -> usize
+fn parts_by_power(w: &[u64], base: usize, k: usize, parts: usize, power: Triple) -> usize
     requires { Room base parts w.now }
-    ensures { PowerPartsNext w.now base k parts code a b result }
+    ensures { PowerPartsNext w.now base k parts power.code power.a power.b result }
 {
     if k >= parts {
         return parts;
     }
-    if is_power(w, base + 3 * k, code, a, b) {
+    if is_power(w, base + 3 * k, power) {
         return parts;
     }
     k
@@ -68,15 +59,13 @@ fn settle(w: &[u64], base: usize, h: Held) -> Held
     requires nodes_bound { h.nodes ≤ 2 ^ 32 }
     ensures { AtRest w.now base h result }
 {
-    if h.code == 0 {
+    if h.power.code == 0 {
         return h;
     }
     Held {
         nodes: h.nodes + 1,
-        parts: parts_by_power(w, base, h.nodes, h.parts, h.code, h.a, h.b),
-        code: 0,
-        a: 0,
-        b: 0,
+        parts: parts_by_power(w, base, h.nodes, h.parts, h.power),
+        power: Triple::default(),
     }
 }
 
@@ -90,45 +79,40 @@ fn hold_plain(w: &[u64], base: usize, h: Held, code: u64) -> Held
     Held {
         nodes: k.nodes + 1,
         parts: parts_by_plain(w, base, k.nodes, k.parts, code),
-        code: k.code,
-        a: k.a,
-        b: k.b,
+        ..k
     }
 }
 
 // A power comes: dropped if it counts nothing, added to the one that waits if that is of the same symbol.
 fn hold_power(w: &[u64], base: usize, h: Held, s: u16, a: u64, b: u64) -> Held
     requires room { Room base h.parts w.now }
-    requires nodes_bound { (h.nodes ≤ 2 ^ 32) × (h.a + h.b + (a + b) < 2 ^ 64) }
+    requires nodes_bound { (h.nodes ≤ 2 ^ 32) × (h.power.a + h.power.b + (a + b) < 2 ^ 64) }
     ensures { CameOne w.now base (npow s (a, b)) h result }
 {
     if a + b == 0 {
         return h;
     }
     let code = 3 * (s as u64) + 2;
-    if h.code == code {
+    if h.power.code == code {
         return Held {
-            nodes: h.nodes,
-            parts: h.parts,
-            code,
-            a: h.a + a,
-            b: h.b + b,
+            power: Triple {
+                code,
+                a: h.power.a + a,
+                b: h.power.b + b,
+            },
+            ..h
         };
     }
-    let k = settle(w, base, h);
     Held {
-        nodes: k.nodes,
-        parts: k.parts,
-        code,
-        a,
-        b,
+        power: Triple { code, a, b },
+        ..settle(w, base, h)
     }
 }
 
 // The next node comes.
 pub fn hold(w: &[u64], base: usize, h: Held, node: Item) -> Held
     requires room { Room base h.parts w.now }
-    requires nodes_bound { (h.nodes ≤ 2 ^ 32) × (h.a + h.b + load (node_told node ∷ []) < 2 ^ 64) × Coded node }
+    requires nodes_bound { (h.nodes ≤ 2 ^ 32) × (h.power.a + h.power.b + load (node_told node ∷ []) < 2 ^ 64) × Coded node }
     ensures { CameOne w.now base (node_told node) h result }
 {
     match node {
@@ -137,37 +121,15 @@ pub fn hold(w: &[u64], base: usize, h: Held, node: Item) -> Held
     }
 }
 
-// Whether the nodes at two places have the same words.
-fn is_same(w: &[u64], p: usize, q: usize) -> bool
-    requires { (p + 3 ≤ length w.now) × (q + 3 ≤ length w.now) }
-    ensures { Assures (node_at w.now p ≡ node_at w.now q) result }
-{
-    if w[p] != w[q] {
-        return false;
-    }
-    if w[p + 1] != w[q + 1] {
-        return false;
-    }
-    if w[p + 2] != w[q + 2] {
-        return false;
-    }
-    true
-}
-
 // Whether the `count` nodes from number n on are those from number `from` on.
 pub fn again(w: &[u64], base: usize, n: usize, from: usize, count: usize) -> bool
     requires room { Room base (n + count) w.now }
     requires count_bound { from + count ≤ NODES }
     ensures { Assures (part w.now base n count ≡ part w.now base from count) result }
 {
-    let mut k: usize = 0;
-    while k < count {
-        if !is_same(w, base + 3 * (n + k), base + 3 * (from + k)) {
-            return false;
-        }
-        k += 1;
-    }
-    true
+    let p = base + 3 * n;
+    let q = base + 3 * from;
+    w[p..p + 3 * count] == w[q..q + 3 * count]
 }
 
 // What a second side amounts to of which no node is left, beside the n nodes that are stored.
@@ -180,11 +142,8 @@ pub fn outcome(w: &[u64], base: usize, n: usize, h: Held) -> Outcome
     if all.nodes > NODES {
         return Outcome::Full;
     }
-    if all.nodes != n {
-        return Outcome::Other;
+    if all.nodes == n && all.parts == n {
+        return Outcome::Same;
     }
-    if all.parts != n {
-        return Outcome::Other;
-    }
-    Outcome::Same
+    Outcome::Other
 }

@@ -1,4 +1,5 @@
 -- A call of an unfold with its use, and the call where it stops.
+use Rattle.std.proofs.Common.{Ok, Err}
 use Prim.Native.Nat.{ℕ, ◌+◌, ◌≤◌, ◌<◌}
 use mathlib.Core.Path.{◌≡◌, refl, subst, ◌∙◌}
 use mathlib.Core.Logic.{◌≢◌}
@@ -18,8 +19,7 @@ use Rattle.patterns.specs.Judge.{Check, compare, pending, parts}
 use Rattle.grammar.specs.Listing.{if_any, term_fields, use_fields}
 use Rattle.grammar.specs.Limits.{RootFits, LastFits}
 use Rattle.instances.specs.declared.Read.{Read}
-use Rattle.comparing.specs.declared.Found.{Found}
-use Rattle.comparing.specs.declared.Found.TheVariants.{Fault, Good}
+use Rattle.comparing.specs.declared.Fault.{Fault}
 use Rattle.comparing.specs.declared.Whole.TheVariants.{Unfold}
 use Rattle.comparing.specs.declared.Behind.{Behind}
 use Rattle.comparing.specs.declared.Behind.TheVariants.{Pending, Nothing}
@@ -30,13 +30,13 @@ use Rattle.comparing.specs.declared.Subject.TheVariants.{Call, Claimed}
 use Rattle.comparing.specs.declared.Filled.TheVariants.{Bare, Used}
 use Rattle.instances.specs.Lying.{Lies, behind}
 use Rattle.instances.specs.Taking.{Takes}
-use Rattle.begins.specs.Known.{Uses, ReadsUse}
+use Rattle.begins.specs.Known.{Known, Uses, ReadsUse}
 use Rattle.comparing.specs.Subjects.{Means, RightMeans}
-use Rattle.comparing.specs.Found.{Finds}
+use Rattle.comparing.specs.Found.{Found, Finds}
 use Rattle.comparing.specs.Rights.{lead}
 use Rattle.comparing.specs.Asked.{asked_at, checks_of, end_of, Checks}
-use Rattle.begins.specs.Placed.{CallsAt}
-use Rattle.unfolds.specs.Unfoldings.{BehindStop, EndsAt, Unfolding, StopsBy, PartBy, EndsBy, EndsUsed, Ends}
+use Rattle.begins.specs.Placed.{RightAt, CallsAt}
+use Rattle.unfolds.specs.Unfoldings.{BehindStop, Unfolding, StopsBy, PartBy, EndsBy, EndsUsed, Ends}
 use Rattle.instances.proofs.Lying.{lies_front}
 use Rattle.instances.proofs.Taking.{rest_at}
 use Rattle.begins.proofs.Frames.{below_then, below_less, known_below, scene_below, uses_below}
@@ -64,21 +64,25 @@ stays_none {j} {count} l = record { told = go }
 
 -- ---- the end of a line
 
-pub ends_fault : {found : Found} {at n p : ℕ} → found ≡ Fault n p → EndsAt found at (Fault n p)
-ends_fault q = record { told = λ ks e h. finds_fault h q }
-
-pub ends_good : {found : Found} {at x : ℕ} → found ≡ Good x → EndsAt found at (Good at)
-ends_good q = record { told = λ ks e h. finds_last h q }
-
-pub stops_by : {book cert w after : List ℕ} {right at : ℕ} {own theirs : Subject} {found r : Found} → RightMeans cert right 1 0 Bare own
-    → Checks book cert Unfold 15 right Nothing own theirs w after found → EndsAt found at r → StopsBy book cert right theirs at w after r
-unfolding asked_at checks_of end_of
-stops_by {book} {cert} {w} {after} {right} {at} {own} {theirs} p c e = record {
-  told = λ ars B es m known a k f x.
+module _ {book cert w after : List ℕ} {right : ℕ} {own theirs : Subject} {r : Found} (p : RightMeans cert right 1 0 Bare own) (c : Checks book cert Unfold 15 right Nothing own theirs w after r) where
+  rights_found : (ars : List ℕ) (B : Book Exp) (es : List (Claim Exp)) (m : Mark Exp) → Known book cert w ars B es → RightAt cert ars right m
+      → (k : Mark Exp) (e : ℕ) → Means book cert w theirs k e → (end : ℕ) × Finds (compare 12 15 m k) end r
+  unfolding asked_at checks_of end_of
+  rights_found ars B es m known a k f x =
       let o = plain_right p known m a in
-      e.told (compare 12 15 m k) o.0 (c.told ars known.arity m a m o.0 (subst (λ n. Means book cert w own n o.0) (right_itself m) o.1) k f x);
-  below = below_less (omega arith) c.below;
-}
+      (o.0, c.told ars known.arity m a m o.0 (subst (λ n. Means book cert w own n o.0) (right_itself m) o.1) k f x)
+
+  pub stops_fault : {at : ℕ} {f : Fault} → r ≡ Err f → StopsBy book cert right theirs at w after (Err f)
+  stops_fault q = record {
+    told = λ ars B es m known a k f x. finds_fault (rights_found ars B es m known a k f x).1 q;
+    below = below_less (omega arith) c.below;
+  }
+
+  pub stops_good : {at x : ℕ} → r ≡ Ok x → StopsBy book cert right theirs at w after (Ok at)
+  stops_good q = record {
+    told = λ ars B es m known a k f x. finds_last (rights_found ars B es m known a k f x).1 q;
+    below = below_less (omega arith) c.below;
+  }
 
 -- ---- a call with a use
 
@@ -117,13 +121,13 @@ module _ {book cert w after : List ℕ} {right j count at : ℕ} {q : Behind} {u
       subst (λ (ks : List (Check Exp)). Finds (ks ++ compare 10 j (some (fill (by θ) v)) (some (instance one u c.left))) (behind at v) r)
       (stays.told vs (omega (arith, U.calls_at.counted)) c.right) (part.told ars B es θ U.scene v vs count U.calls_at u c x)
 
-  pub ends_early : {n p : ℕ} → r ≡ Fault n p → EndsBy book cert right j count at used w after (Fault n p)
+  pub ends_early : {f : Fault} → r ≡ Err f → EndsBy book cert right j count at used w after (Err f)
   ends_early e = record {
     told = λ ars B es θ m v vs U u c x. finds_stop _ (last_part U x) e;
     below = below_less (omega arith) part.below;
   }
 
-  pub ends_by : {x : ℕ} {theirs : Subject} {end : List ℕ} {s : Found} → r ≡ Good x → RightMeans cert used.right used.i used.j Used theirs
+  pub ends_by : {x : ℕ} {theirs : Subject} {end : List ℕ} {s : Found} → r ≡ Ok x → RightMeans cert used.right used.i used.j Used theirs
       → StopsBy book cert right theirs used.end after end s → EndsBy book cert right j count at used w end s
   ends_by {x} {theirs} {end} {s} e t stopped = record {
     told = λ ars B es θ m v vs U u c y.

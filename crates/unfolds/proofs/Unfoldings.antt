@@ -1,4 +1,5 @@
 -- The parts of an unfold from j on, where it stops, and the whole.
+use Rattle.std.proofs.Common.{Ok, Err}
 use Prim.Native.Nat.{ℕ, suc, ◌+◌, ◌-◌, ◌<◌}
 use mathlib.Core.Path.{◌≡◌, refl, sym, subst, ap}
 use mathlib.Core.Logic.{◌≢◌}
@@ -19,8 +20,7 @@ use Rattle.grammar.specs.Listing.{Fields, if_any, term_fields, use_fields, filli
 use Rattle.grammar.specs.Limits.{UseFits, LastFits, StopFits, KindFits, call_counts}
 use Rattle.table.specs.Places.{OWN}
 use Rattle.instances.specs.declared.Read.{Read}
-use Rattle.comparing.specs.declared.Found.{Found}
-use Rattle.comparing.specs.declared.Found.TheVariants.{Fault, Good}
+use Rattle.comparing.specs.declared.Fault.{Fault}
 use Rattle.comparing.specs.declared.Whole.TheVariants.{Unfold}
 use Rattle.comparing.specs.declared.Behind.TheVariants.{Judged, Nothing}
 use Rattle.begins.specs.declared.Instance.{Instance}
@@ -32,7 +32,7 @@ use Rattle.begins.specs.Placed.{RightAt, LeftAt, RuleAt, CallsAt}
 use Rattle.instances.specs.Taking.{Takes}
 use Rattle.begins.specs.Known.{Scene, ReadsUse}
 use Rattle.comparing.specs.Subjects.{Means}
-use Rattle.comparing.specs.Found.{Finds}
+use Rattle.comparing.specs.Found.{Found, Finds}
 use Rattle.comparing.specs.Rights.{lead}
 use Rattle.comparing.specs.Asked.{asked_at, checks_of, end_of, Checks}
 use Rattle.unfolds.specs.Unfoldings.{Unfolding, StopsBy, PartBy, Ends, PartsAt, StopsAt, UnfoldsBy, UnfoldAt}
@@ -98,18 +98,18 @@ module _ {book cert w v after : List ℕ} {j call at : ℕ} {used : Instance} {r
         let n = below_listed es u.line fits.earlier in
         (read.told ars B es U.scene.known (length es) u n.0 fits (lies_front cert at (use_fields u) gs lies) n.1).1
 
-  pub parts_fault : {right count before n p : ℕ} → before ≢ 0 → r ≡ Fault n p → PartsAt book cert right j count before call at w after (Fault n p)
+  pub parts_fault : {right count before : ℕ} {f : Fault} → before ≢ 0 → r ≡ Err f → PartsAt book cert right j count before call at w after (Err f)
   unfolding flat_map Every
-  parts_fault {right} {count} {before} {n} {p} ne q = record { told = go; below = below_then read.below (below_less (omega arith) part.below) }
+  parts_fault {right} {count} {before} {f} ne q = record { told = go; below = below_then read.below (below_less (omega arith) part.below) }
     where
-      go : PartsTold book cert right j count before call at w (Fault n p)
+      go : PartsTold book cert right j count before call at w (Err f)
       go ars B es θ m [] U us last e l f g lies = absurd (omega arith)
       go ars B es θ m (t ∷ ts) U [] last e l f g lies = absurd (ne (sym e))
       go ars B es θ m (t ∷ ts) U (u ∷ us) last e l f g lies =
           one_part U us last (flat_map use_fields us ++ if_any use_fields last) f.0
           (subst (Lies cert at) (append_assoc (use_fields u) (flat_map use_fields us) (if_any use_fields last)) lies) (λ ks h. finds_stop _ h q)
 
-  pub parts_on : {right count before x : ℕ} {end : List ℕ} {s : Found} → before ≢ 0 → r ≡ Good x
+  pub parts_on : {right count before x : ℕ} {end : List ℕ} {s : Found} → before ≢ 0 → r ≡ Ok x
       → PartsAt book cert right (j + 1) count (before - 1) x used.end after end s → PartsAt book cert right j count before call at w end s
   unfolding flat_map Every
   parts_on {right} {count} {before} {x} {end} {s} ne q next = record {
@@ -131,6 +131,29 @@ module _ {book cert w v after : List ℕ} {j call at : ℕ} {used : Instance} {r
           finds_ending (omega (arith, ends, width_append (use_fields u) gs, ap width all))
           (subst (λ i. Finds (parts one es θ i ts us last m) (used.end + width gs) s) (omega arith)
           (next.told ars B es θ m ts (record { scene = scene; right_at = U.right_at; calls_at = rest_calls U.calls_at z }) us last (omega (arith, e)) (omega (arith, l, e)) f.1 g behind-it))))
+
+-- what the loop over parts keeps: whatever is found of the parts from i on is found of all from j on
+pub record Goes (book cert : List ℕ) (right count : ℕ) (j before call at : ℕ) (w : List ℕ) (i more call_now next : ℕ) (v : List ℕ) : Type 0 where
+  pub whole : {after : List ℕ} {r : Found} → PartsAt book cert right i count more call_now next v after r → PartsAt book cert right j count before call at w after r
+
+pub goes_here : {book cert w : List ℕ} {right count j before more call at : ℕ} → more ≡ before → Goes book cert right count j before call at w j more call at w
+goes_here {book} {cert} {w} {right} {count} {j} {before} {more} {call} {at} e = record {
+  whole = λ {after} {r} h. subst (λ n. PartsAt book cert right j count n call at w after r) e h;
+}
+
+module _ {book cert w v : List ℕ} {right count j before call at i more here next : ℕ} (G : Goes book cert right count j before call at w i more here next v) where
+  pub goes_end : {after : List ℕ} {last : ℕ} {r : Found} → last ≡ i → more ≡ 0 → Ends book cert right last count here next v after r
+      → PartsAt book cert right j count before call at w after r
+  goes_end {after} {r = r} l z h = G.whole (parts_last z (subst (λ k. Ends book cert right k count here next v after r) l h))
+
+  module _ {x u : List ℕ} {used : Instance} {r : Found} (some : more ≢ 0) (read : ReadsUse book cert next v x used) (part : PartBy book cert i Judged here used x u r) where
+    pub goes_fault : {f : Fault} → r ≡ Err f → PartsAt book cert right j count before call at w u (Err f)
+    goes_fault q = G.whole (parts_fault read part some q)
+
+    pub goes_on : {e less : ℕ} → r ≡ Ok e → less ≡ more - 1 → Goes book cert right count j before call at w (i + 1) less e used.end u
+    goes_on {e} {less} q l = record {
+      whole = λ {after} {r} h. G.whole (parts_on read part some q (subst (λ n. PartsAt book cert right (i + 1) count n e used.end u after r) l h));
+    }
 
 -- ---- where an unfold stops
 
@@ -171,14 +194,14 @@ module _ {book cert w v : List ℕ} {left right : ℕ} (k : ℕ) {at : ℕ} {c :
   head_found {ars} S L R e =
       head.told ars S.known.arity _ R _ _ (call_means S (rule_at S e).fits.head (head_lies t (rule_at S e))) _ _ (left_itself S.known L)
 
-  pub unfolds_fault : {i end n p : ℕ} → r ≡ Fault n p → UnfoldsBy book cert left right k i end w v (Fault n p)
+  pub unfolds_fault : {i end : ℕ} {f : Fault} → r ≡ Err f → UnfoldsBy book cert left right k i end w v (Err f)
   unfolding line_checks
   unfolds_fault q = record {
     told = λ ars B es θ S l L R u e s z fits lies. finds_given _ e (finds_stop _ (head_found S L R e) q);
     below = below_less (omega arith) head.below;
   }
 
-  pub unfolds_on : {i end x : ℕ} {after : List ℕ} {s : Found} → r ≡ Good x → StopsAt book cert right i c.value x end v after s
+  pub unfolds_on : {i end x : ℕ} {after : List ℕ} {s : Found} → r ≡ Ok x → StopsAt book cert right i c.value x end v after s
       → UnfoldsBy book cert left right k i end w after s
   unfolding line_checks
   unfolds_on q p = record {

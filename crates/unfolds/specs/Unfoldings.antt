@@ -10,11 +10,10 @@ use Rattle.patterns.specs.Every.{Every}
 use Rattle.patterns.specs.Derive.{Rule, Book}
 use Rattle.patterns.specs.Certificate.{Fills, by, Mark, Claim, Use, Stop, unfolds}
 use Rattle.patterns.specs.Checks.{instance, instance_mark}
-use Rattle.patterns.specs.Judge.{Check, compare, pending, parts, stops, line_checks}
+use Rattle.patterns.specs.Judge.{compare, pending, parts, stops, line_checks}
 use Rattle.grammar.specs.Listing.{if_any, use_fields, stop_fields, stop_number, kind_fields}
 use Rattle.grammar.specs.Limits.{UseFits, LastFits, StopFits, KindFits, call_counts}
 use Rattle.table.specs.Places.{OWN, USED, FIRST}
-use Rattle.comparing.specs.declared.Found.{Found}
 use Rattle.comparing.specs.declared.Behind.{Behind}
 use Rattle.begins.specs.declared.Instance.{Instance}
 use Rattle.instances.specs.Lying.{Lies, behind}
@@ -22,16 +21,12 @@ use Rattle.begins.specs.Placed.{RightAt, LeftAt, CallsAt}
 use Rattle.begins.specs.Known.{Below, Known, Scene, Uses}
 use Rattle.comparing.specs.declared.Subject.{Subject}
 use Rattle.comparing.specs.Subjects.{Means}
-use Rattle.comparing.specs.Found.{Finds}
+use Rattle.comparing.specs.Found.{Found, Finds}
 use Rattle.comparing.specs.Rights.{lead}
 
 -- 01: "for j = i < m it must not be [empty]; else 11": m is `count`, and the calls vs stand behind the j-th
 pub record BehindStop (j count : ℕ) (q : Behind) : Type 0 where
   pub told : (vs : List Pattern) → count ≡ j + length vs → (m : Mark Exp) → lead q 11 j m ≡ pending j vs m
-
--- the same found, with another end
-pub record EndsAt (found : Found) (at : ℕ) (r : Found) : Type 0 where
-  pub told : (ks : List (Check Exp)) (e : ℕ) → Finds ks e found → Finds ks at r
 
 -- what an unfold's parts from j on are judged over: the table, the line's right, and the calls
 pub record Unfolding (book cert w ars : List ℕ) (B : Book Exp) (es : List (Claim Exp)) (θ : Fills Exp) (right : ℕ) (m : Mark Exp) (call : ℕ) (vs : List Pattern) (j count : ℕ) : Type 0 where

@@ -3,7 +3,7 @@
 
 ghost use Rattle.std.specs.Prelude.{◌+◌, ◌≤◌, ◌<◌, length};
 ghost use Rattle.table.specs.Places.{WORDS, ROWS};
-ghost use Rattle.unfolds.specs.Unfoldings.{BehindStop, EndsAt, StopsBy, PartBy, EndsBy, EndsUsed, Ends, PartsAt, StopsAt, UnfoldsBy, UnfoldAt};
+ghost use Rattle.unfolds.specs.Unfoldings.{BehindStop, StopsBy, PartBy, EndsBy, EndsUsed, Ends, PartsAt, StopsAt, UnfoldsBy, UnfoldAt};
 
 use begins::Instance;
 use comparing::{Behind, Filled, Found, Subject, Whole};
@@ -15,18 +15,9 @@ fn behind_stop(j: usize, count: usize) -> Behind
     ensures { BehindStop j count result }
 {
     if j < count {
-        return Behind::Pending;
-    }
-    Behind::Nothing
-}
-
-// What the last checks of a line come to, if the line ends at a bit.
-fn ending(found: Found, at: usize) -> Found
-    ensures { EndsAt found at result }
-{
-    match found {
-        Found::Fault { number: n, part: p } => Found::Fault { number: n, part: p },
-        Found::Good(_) => Found::Good(at),
+        Behind::Pending
+    } else {
+        Behind::Nothing
     }
 }
 
@@ -43,7 +34,7 @@ fn stop_by(
     ensures { StopsBy book.now certificate.now right theirs at w.old w.new result }
 {
     let own = comparing::claimed_right(certificate, right, 1, 0, Filled::Bare);
-    let found = comparing::check(
+    comparing::check(
         book,
         certificate,
         w,
@@ -53,8 +44,8 @@ fn stop_by(
         Behind::Nothing,
         own,
         theirs,
-    );
-    ending(found, at)
+    )?;
+    Ok(at)
 }
 
 // The part j of an unfold, by a use that was read: its right, and the call against the instance of its left.
@@ -104,12 +95,9 @@ fn last_by(
     ensures { EndsBy book.now certificate.now right j count call used w.old w.new result }
 {
     let theirs = comparing::claimed_right(certificate, used.right, used.i, used.j, Filled::Used);
-    let end = used.end;
     let behind = behind_stop(j, count);
-    match part_by(book, certificate, w, j, behind, call, used) {
-        Found::Fault { number: n, part: p } => Found::Fault { number: n, part: p },
-        Found::Good(_) => stop_by(book, certificate, w, right, theirs, end),
-    }
+    part_by(book, certificate, w, j, behind, call, used)?;
+    stop_by(book, certificate, w, right, theirs, used.end)
 }
 
 // The last part j of an unfold whose call has a use.
@@ -167,25 +155,14 @@ fn parts(
     requires { (WORDS ≤ length w.old) × (j + before ≤ 16) }
     ensures { PartsAt book.now certificate.now right j count before call at w.old w.new result }
 {
-    if before == 0 {
-        return last(book, certificate, w, right, j, count, call, at);
+    let mut call = call;
+    let mut next = at;
+    for part in j..j + before {
+        let used = begins::read_use(book, certificate, w, next);
+        call = part_by(book, certificate, w, part, Behind::Judged, call, used)?;
+        next = used.end;
     }
-    let used = begins::read_use(book, certificate, w, at);
-    let end = used.end;
-    match part_by(book, certificate, w, j, Behind::Judged, call, used) {
-        Found::Fault { number: n, part: p } => Found::Fault { number: n, part: p },
-        Found::Good(next) => parts(
-            book,
-            certificate,
-            w,
-            right,
-            j + 1,
-            count,
-            before - 1,
-            next,
-            end,
-        ),
-    }
+    last(book, certificate, w, right, j + before, count, call, next)
 }
 
 // The parts of an unfold behind its head; it stops at i, and the rule has `count` calls.
@@ -225,7 +202,7 @@ fn unfold_by(
     let calls = instances::field(book, 4, begins::noted(w, k));
     let count = calls.value as usize;
     let head = Subject::Call(calls.at);
-    match comparing::check(
+    let call = comparing::check(
         book,
         certificate,
         w,
@@ -240,10 +217,8 @@ fn unfold_by(
             j: 0,
             filled: Filled::Bare,
         },
-    ) {
-        Found::Fault { number: n, part: p } => Found::Fault { number: n, part: p },
-        Found::Good(call) => stop(book, certificate, w, right, i, count, call, at),
-    }
+    )?;
+    stop(book, certificate, w, right, i, count, call, at)
 }
 
 // An unfold, behind its claim.

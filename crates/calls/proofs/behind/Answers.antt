@@ -8,4 +8,4 @@ returns-then-p-k c = behind_gone _ _ _ c.if-p-k.true
 
 pub returns : goal.returns
 unfolding end_of
-returns c = behind_term _ _ _ c.requires.0 c.requires.1 c.if-p-k.false
+returns c = rw c.at.ensures (behind_term _ _ _ c.requires.0 c.requires.1 c.if-p-k.false)

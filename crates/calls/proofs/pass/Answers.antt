@@ -1,15 +1,15 @@
 -- `calls::pass` meets its contract.
 use Rattle.calls.specs.Standing.{end_of}
 use native.Mathlib.Omega.{arith}
-use Rattle.calls.proofs.Passing.{passing_out, passing_over, passing_on}
+use Rattle.calls.proofs.Passing.{passes_start, passes_out, passes_on}
 use Rattle.calls.proofs.pass.Goals as goal
 
+pub loop-init : goal.loop-init
+loop-init c = passes_start c.requires.1
+
 pub returns-then-at-k : goal.returns-then-at-k
-returns-then-at-k c = passing_out c.loop-more.invariant c.if-at-k.true
+returns-then-at-k c = passes_out c.loop.invariant c.if-at-k.true (omega arith)
 
-pub loop-more-preserved : goal.loop-more-preserved
+pub loop-preserved : goal.loop-preserved
 unfolding end_of
-loop-more-preserved c = passing_on c.loop-more.invariant c.requires.0 c.if-at-k.false (omega arith)
-
-pub returns : goal.returns
-returns c = passing_over c.loop-more.invariant (omega arith)
+loop-preserved c = passes_on c.loop.invariant c.requires.0 c.if-at-k.false

@@ -1,9 +1,6 @@
 -- `calls::pass` meets its contract.
-use Rattle.calls.proofs.Passing.{Passing}
+use Rattle.calls.specs.Moving.{Passes}
 use Rattle.calls.proofs.pass.Given as goal
 
-abbrev pub invariant-loop-more : goal.invariant-loop-more
-invariant-loop-more l = Passing l.w l.k l.j l.n l.at l.more
-
-abbrev pub decreases-loop-more : goal.decreases-loop-more
-decreases-loop-more l = l.more
+abbrev pub invariant-loop : goal.invariant-loop
+invariant-loop l = Passes l.w l.k l.j l.counter l.at

@@ -5,5 +5,5 @@ use Rattle.comparing.proofs.claimed_right.Goals as goal
 pub returns-then-any-eq0 : goal.returns-then-any-eq0
 returns-then-any-eq0 c = right_empty c.field-any.ensures _ _ _ c.if-any-eq0.true
 
-pub returns : goal.returns
-returns c = right_there c.field-any.ensures _ _ _ c.if-any-eq0.false
+pub returns-else-any-eq0 : goal.returns-else-any-eq0
+returns-else-any-eq0 c = right_there c.field-any.ensures _ _ _ c.if-any-eq0.false

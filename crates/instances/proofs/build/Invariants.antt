@@ -4,8 +4,5 @@ use Rattle.instances.specs.Repeats.{Remembers}
 use Rattle.instances.proofs.Pushings.{Pushing}
 use Rattle.instances.proofs.build.Given as goal
 
-abbrev pub invariant-loop-last : goal.invariant-loop-last
-invariant-loop-last l = Pushing (filled l.book l.certificate l.initial.w l.fills l.i l.j) l.book l.s l.at l.base 0 l.initial.w l.w l.nodes l.left l.p × Remembers l.book l.certificate l.w l.base l.nodes l.last
-
-abbrev pub decreases-loop-last : goal.decreases-loop-last
-decreases-loop-last l = l.left
+abbrev pub invariant-loop-header : goal.invariant-loop-header
+invariant-loop-header l = Pushing (filled l.book l.certificate l.initial.w l.fills l.i l.j) l.book l.s l.at l.base 0 l.initial.w l.w l.grown.nodes l.walk × Remembers l.book l.certificate l.w l.base l.grown.nodes l.grown.last

@@ -1,13 +1,7 @@
 -- `lines::lines` meets its contract. The loop's invariant: what is judged of the lines left is judged of the whole.
-use Prim.Native.Nat.{◌+◌, ◌≤◌}
-use mathlib.Core.Path.{◌≡◌}
-use lib.ListN.{length}
+use Prim.Native.Nat.{◌+◌, ◌-◌}
 use Rattle.lines.proofs.Going.{Goes}
 use Rattle.lines.proofs.lines.Given as goal
 
-abbrev pub invariant-loop-more : goal.invariant-loop-more
-invariant-loop-more l =
-    (length l.w ≡ length l.initial.w) × (l.number + l.more ≤ 255) × Goes l.book l.certificate l.at l.k l.n l.initial.w l.next l.number l.more l.w
-
-abbrev pub decreases-loop-more : goal.decreases-loop-more
-decreases-loop-more l = l.more
+abbrev pub invariant-loop-number : goal.invariant-loop-number
+invariant-loop-number l = Goes l.book l.certificate l.at l.k l.n l.initial.w l.next l.number-counter (l.k + l.n - l.number-counter) l.w

@@ -2,8 +2,5 @@
 use Rattle.matching.proofs.Searching.{Trying}
 use Rattle.matching.proofs.first_fit.Given as goal
 
-abbrev pub invariant-loop-more : goal.invariant-loop-more
-invariant-loop-more l = Trying l.book l.s l.k l.at l.i l.n l.initial.w l.w l.index l.more
-
-abbrev pub decreases-loop-more : goal.decreases-loop-more
-decreases-loop-more l = l.more
+abbrev pub invariant-loop-index : goal.invariant-loop-index
+invariant-loop-index l = Trying l.book l.s l.k l.at l.i l.n l.initial.w l.w l.index

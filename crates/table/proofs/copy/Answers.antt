@@ -1,14 +1,12 @@
--- `table::copy` meets its contract. The loop's invariant: k nodes are copied.
-use Rattle.table.proofs.Copies.{copied_none, copied_full, copied_more}
+-- `table::copy` meets its contract: what `copy_within` does to the words is one copy more of the nodes.
+use Rattle.table.proofs.Copies.{copied_full, copied_all}
 use native.Mathlib.Omega.{arith}
 use Rattle.table.proofs.copy.Goals as goal
 
 pub returns-then-n-count-gt-NODES : goal.returns-then-n-count-gt-NODES
-returns-then-n-count-gt-NODES c = copied_full _ _ _ _ c.requires.room _ (omega arith)
+returns-then-n-count-gt-NODES c = copied_full _ _ _ _ _ c.requires.room (omega arith)
 
-pub loop-k-init : goal.loop-k-init
-loop-k-init c = (omega arith, copied_none _ _ _ _ c.requires.room)
-
-pub loop-k-preserved : goal.loop-k-preserved
-loop-k-preserved c =
-    (omega arith, copied_more _ _ _ _ c.requires.room _ _ c.loop-k.invariant.1 _ (omega (arith, c.requires.count_bound)) (omega (arith, c.if-n-count-gt-NODES.false)) c.write_node.ensures)
+pub returns : goal.returns
+returns c =
+    let words = c.copy_within.ensures.by_index in
+    copied_all _ _ _ _ _ c.requires.room _ _ (omega arith) (omega arith) c.copy_within.ensures.len words.0 words.1 words.2

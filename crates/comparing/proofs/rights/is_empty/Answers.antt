@@ -3,4 +3,4 @@ use Rattle.comparing.proofs.Looking.{empty_right}
 use Rattle.comparing.proofs.rights.is_empty.Goals as goal
 
 pub returns : goal.returns
-returns c = empty_right c.field-any.ensures
+returns c = empty_right c.field.ensures

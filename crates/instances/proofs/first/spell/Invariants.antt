@@ -3,8 +3,5 @@ use Rattle.instances.specs.Filled.{itself}
 use Rattle.instances.proofs.Pushings.{Pushing}
 use Rattle.instances.proofs.first.spell.Given as goal
 
-abbrev pub invariant-loop-p : goal.invariant-loop-p
-invariant-loop-p l = Pushing itself l.book l.s l.at l.base l.count l.initial.w l.w l.n l.left l.p
-
-abbrev pub decreases-loop-p : goal.decreases-loop-p
-decreases-loop-p l = l.left
+abbrev pub invariant-loop-header : goal.invariant-loop-header
+invariant-loop-header l = Pushing itself l.book l.s l.at l.base l.count l.initial.w l.w l.n l.walk

@@ -5,8 +5,5 @@ use Rattle.instances.specs.Filled.{itself}
 use Rattle.instances.proofs.Comings.{Coming}
 use Rattle.instances.proofs.second.hold_term.Given as goal
 
-abbrev pub invariant-loop-p : goal.invariant-loop-p
-invariant-loop-p l = Coming itself l.book l.s l.at l.w l.base l.initial.h l.h l.left l.p × (l.h.nodes + 2 * l.left ≤ NODES + 512)
-
-abbrev pub decreases-loop-p : goal.decreases-loop-p
-decreases-loop-p l = l.left
+abbrev pub invariant-loop-header : goal.invariant-loop-header
+invariant-loop-header l = Coming itself l.book l.s l.at l.w l.base l.initial.h l.h l.walk × (l.h.nodes + 2 * l.walk.left ≤ NODES + 512)

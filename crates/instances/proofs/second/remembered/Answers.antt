@@ -3,5 +3,5 @@ use Rattle.instances.proofs.Passings.{held_new}
 use native.Mathlib.Omega.{arith}
 use Rattle.instances.proofs.second.remembered.Goals as goal
 
-pub returns : goal.returns
-returns c = held_new (omega arith) (omega arith) (omega arith)
+pub returns-then-after : goal.returns-then-after
+returns-then-after c = held_new (omega arith) (omega arith) (omega arith)

@@ -9,4 +9,4 @@ pub returns-then-h-code : goal.returns-then-h-code
 returns-then-h-code c = comes_added _ _ _ c.if-a-b-eq0.false c.if-h-code.true
 
 pub returns : goal.returns
-returns c = comes_kept _ _ _ c.if-a-b-eq0.false c.if-h-code.false c.settle-k.ensures
+returns c = comes_kept _ _ _ c.if-a-b-eq0.false c.if-h-code.false c.settle.ensures
