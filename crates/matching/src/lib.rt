@@ -72,8 +72,7 @@ fn fits_at(book: &[u8], s: &[u8], w: &mut [u64], k: usize, at: usize, i: u16) ->
 {
     forget(w, BOUND);
     let mut place = Place { node: 0, used: 0 };
-    let mut walk = Walk::new(book, s, at);
-    while let Some(header) = walk.next() {
+    for header in Walk::new(book, s, at) {
         let Some(next) = match_node(w, k, header, i, place) else {
             return false;
         };

@@ -4,7 +4,7 @@ use Rattle.matching.proofs.Walking.{walking_start, walking_spans, walking_over, 
 use Rattle.matching.proofs.fits_at.Goals as goal
 
 pub loop-header-init : goal.loop-header-init
-loop-header-init c = walking_start _ _ _ _ _ _ c.requires c.forget.ensures c.new-walk.ensures
+loop-header-init c = rw c.into_iter-header-iterator.ensures.into_iter_gives (walking_start _ _ _ _ _ _ c.requires c.forget.ensures c.new-header-items.ensures)
 
 pub match_node-requires : goal.match_node-requires
 match_node-requires c = (
@@ -13,11 +13,11 @@ match_node-requires c = (
   (meets c.loop-header.invariant.going c.in-Some.ensures.steps).named,
 )
 
-pub returns-in_default-match_node : goal.returns-in_default-match_node
-returns-in_default-match_node c = walking_off _ _ _ _ _ _ c.requires c.loop-header.invariant c.in-Some.ensures.steps c.match_node.ensures c.in_default-match_node.is
+pub returns-in_default : goal.returns-in_default
+returns-in_default c = walking_off _ _ _ _ _ _ c.requires c.loop-header.invariant c.in-Some.ensures.steps c.match_node.ensures c.in_default.is
 
 pub loop-header-preserved : goal.loop-header-preserved
 loop-header-preserved c = walking_on _ _ _ _ _ _ c.requires c.loop-header.invariant c.in-Some.ensures.steps c.match_node.ensures c.in-Some-match_node.is
 
 pub returns : goal.returns
-returns c = walking_over _ _ _ _ _ _ c.requires c.loop-header.invariant c.in_default.ensures.steps
+returns c = walking_over _ _ _ _ _ _ c.requires c.loop-header.invariant c.in-None.ensures.steps
