@@ -30,6 +30,7 @@ pub struct Read {
 
 // The header of a node, with the cursor past it: a variable, a symbol with its arity, or a power of a symbol with a and b. It is
 // missing where a field runs past the end or the tag is 3.
+// A missing one is a kind like the others, and no Option, since `next` and `item_of` promise what it comes to.
 #[derive(Clone, Copy)]
 pub enum Header {
     Variable {

@@ -32,13 +32,6 @@ held_none w base n few all rest = rests rest (λ s e. refl) (record { nodes = fe
 -- ---- a power is settled
 
 module _ {w : List ℕ} {base : ℕ} {h : Held} where
-  pub rest_none : h.power.code ≡ 0 → AtRest w base h h
-  rest_none z = record { told = go; none = z; low = omega arith; few = omega arith; light = omega arith }
-    where
-      go : (n : ℕ) (ns : List (Node Exp)) → Tracks w base n h ns → Tallied w base n ns h
-      go n ns (rests e f c) = c
-      go n ns (waits s e q c) = absurd (omega arith)
-
   -- where v are the words for no power
   pub rest_power : {p : ℕ} {v : Triple} → ¬ (h.power.code ≡ 0) → PowerPartsNext w base h.nodes h.parts h.power.code h.power.a h.power.b p
       → v.code ≡ 0 → v.a ≡ 0 → v.b ≡ 0 → AtRest w base h (record { nodes = h.nodes + 1; parts = p; power = v })

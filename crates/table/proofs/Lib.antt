@@ -11,4 +11,3 @@ pub mod Repeats
 pub mod Holding
 pub mod Copies
 pub mod Marks
-pub mod Zeros

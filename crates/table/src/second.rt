@@ -2,7 +2,7 @@
 // known that nothing merges with it.
 ghost use Rattle.std.specs.Prelude.{◌≡◌, ◌+◌, ◌%◌, ◌<◌, ◌≤◌, ◌^◌, [], ◌∷◌, length};
 ghost use Rattle.patterns.specs.Term.{npow};
-ghost use Rattle.table.specs.Nodes.{node_of, node_at, load};
+ghost use Rattle.table.specs.Nodes.{node_of, load};
 ghost use Rattle.table.specs.Sides.{node_told, Coded, Room};
 ghost use Rattle.table.specs.Places.{NODES};
 ghost use Rattle.table.specs.Answer.{Assures};
