@@ -39,8 +39,7 @@ fn arity_of(book: &[u8], f: u64) -> usize
     let Ok(symbol) = u8::try_from(f) else {
         return 16;
     };
-    let none = [0u16; 0];
-    usize::from(terms::arity(book, &none, false, u16::from(symbol)))
+    usize::from(terms::arity_of(book, u16::from(symbol)))
 }
 
 // How many terms follow a node, by its first word.

@@ -11,7 +11,6 @@ ghost use Rattle.covers.specs.Stages.{Ready, AsksCall};
 ghost use Rattle.covers.specs.Told.{CoverTold};
 
 use answers::{Acceptance, Coverage, W};
-use layout::Opening;
 use table::LEFTS;
 
 // The index that was found; 17 where there is none.
@@ -34,17 +33,8 @@ fn ask_call(
     ensures answered { AsksCall book.now certificate.now call.now at alpha result }
     ensures lent { length work.new ≡ length work.old }
 {
-    match layout::open_call(book, call) {
-        Opening::Shut(r) => Err(r),
-        Opening::Open { .. } => index_told(matching::search(
-            book,
-            certificate,
-            call,
-            work,
-            at,
-            alpha,
-        )),
-    }
+    layout::open_call(book, call)?;
+    index_told(matching::search(book, certificate, call, work, at, alpha))
 }
 
 // The certificate is accepted: the table tells where the left of the named line lies.

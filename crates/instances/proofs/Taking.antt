@@ -1,7 +1,7 @@
 -- A field that was taken is the one that lies there, and the fields behind it lie where it ends.
 use Rattle.std.specs.Prelude.{Some, None}
-use Prim.Native.Nat.{ℕ, zero, suc, ◌^◌, ◌≤◌, ◌<◌}
-use mathlib.Core.Path.{◌≡◌, sym, subst, ◌∙◌}
+use Prim.Native.Nat.{ℕ, zero, suc, ◌+◌, ◌^◌, ◌≤◌, ◌<◌}
+use mathlib.Core.Path.{◌≡◌, sym, subst, ap, ◌∙◌}
 use mathlib.Core.List.{List, ◌∷◌}
 use native.Mathlib.Omega.{arith}
 use Rattle.bits.specs.Bits.{read_field}
@@ -34,7 +34,10 @@ module _ (s : List ℕ) (w at : ℕ) (narrow : w ≤ 16) where
   takes_got v d e p =
       let got = read_got s w at v d (sym e ∙ p) in
       record {
-        told = λ u fs l. let g = lies_first s at w u fs narrow l in (cc, cc);
+        told = λ u fs l.
+            let g = lies_first s at w u fs narrow l in
+            let t : ◌≡◌ {A = ℕ × Cursor} (v, d) (u, record { at = at + w }) = cc in
+            (ap (λ (q : ℕ × Cursor). q.0) t, ap (λ (q : ℕ × Cursor). q.1.at) t);
         small = rw got.0 at (bits_lt s at w);
         near = omega (arith, got.1, got.3);
       }

@@ -16,7 +16,7 @@ ghost use Rattle.instances.specs.Instances.{Skips, Levels, Builds};
 ghost use Rattle.instances.specs.Walks.{single, Next, Ended, LevelNode};
 ghost use Rattle.instances.specs.Filled.{ComesAs, word_of};
 
-use bits::{Cursor, Taken};
+use bits::Cursor;
 use first::push_filled;
 use nodes::Walk;
 use table::{Held, Item};
@@ -94,8 +94,8 @@ pub fn field(s: &[u8], w: usize, at: usize) -> Read
 {
     let c = Cursor { at };
     match c.take(w, s) {
-        Taken::Past => Read { value: 0, at: 0 },
-        Taken::Got(v, d) => Read { value: v, at: d.at },
+        Some((v, d)) => Read { value: v, at: d.at },
+        None => Read { value: 0, at: 0 },
     }
 }
 

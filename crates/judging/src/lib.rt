@@ -14,7 +14,7 @@ ghost use Rattle.judging.specs.Judged.{Judged, JudgedInput};
 ghost use Rattle.judging.specs.Placed.{Placed};
 
 use answers::{Refusal, Verdict, W};
-use layout::seeing::{Finding, see_book, see_certificate};
+use layout::seeing::{see_book, see_certificate};
 use table::WORDS;
 
 // The certificate beside its good book: walked to its end, then judged.
@@ -24,10 +24,8 @@ fn judge_certificate(book: &[u8], counts: &[u8], certificate: &[u8], work: &mut 
     ensures lent { length work.new ≡ length work.old }
     ensures placed { Placed book.now certificate.now work.new result }
 {
-    match see_certificate(book, counts, certificate) {
-        Finding::Shut(r) => Err(r),
-        Finding::Good(_) => lines::judge_lines(book, certificate, work),
-    }
+    see_certificate(book, counts, certificate)?;
+    lines::judge_lines(book, certificate, work)
 }
 
 // Both files: their lengths, the whole book, and the certificate beside it. The table is not cleared: this also serves what asks more of
@@ -41,10 +39,8 @@ pub fn judge_files(book: &[u8], certificate: &[u8], work: &mut [u64]) -> Verdict
     answers::check_length(book.len(), 16384, W::Book)?;
     answers::check_length(certificate.len(), 32768, W::Certificate)?;
     let mut counts = [0u8; 256];
-    match see_book(book, &mut counts) {
-        Finding::Shut(r) => Err(r),
-        Finding::Good(m) => judge_certificate(book, &counts[..m], certificate, work),
-    }
+    let rules = see_book(book, &mut counts)?;
+    judge_certificate(book, &counts[..rules], certificate, work)
 }
 
 // Whether a work table has fewer than 8,192 numbers.

@@ -31,24 +31,26 @@ returns-in_err-check_length-2 c =
     }
 
 pub slice_bounds-counts-end : goal.slice_bounds-counts-end
-slice_bounds-counts-end c = let h = few_rules c.see_book.ensures c.in-Good.is in search rules
+slice_bounds-counts-end c = let h = few_rules c.see_book.ensures c.in_ok-rules.was in search rules
 
 pub slice_bounds-judge_certificate-end : goal.slice_bounds-judge_certificate-end
-slice_bounds-judge_certificate-end c = let h = few_rules c.see_book.ensures c.in-Good.is in omega (arith, length-take c.in-Good.m c.see_book.new.counts)
+slice_bounds-judge_certificate-end c = let h = few_rules c.see_book.ensures c.in_ok-rules.was in omega (arith, length-take c.in_ok-rules.rules c.see_book.new.counts)
 
 pub judge_certificate-requires : goal.judge_certificate-requires
-judge_certificate-requires c = (is_beside c.see_book.ensures c.in-Good.is refl, omega (arith, c.in_ok-check_length-2.ensures), c.requires)
+judge_certificate-requires c = (is_beside c.see_book.ensures c.in_ok-rules.was refl, omega (arith, c.in_ok-check_length-2.ensures), c.requires)
 
-pub returns-in-Shut : goal.returns-in-Shut
+pub returns-in_err-rules : goal.returns-in_err-rules
 unfolding paper_verdict
-returns-in-Shut c = record {
-  answered = sym (both_short _ _ c.in_ok-check_length.ensures c.in_ok-check_length-2.ensures ∙ book_refused _ _ _ (finding_shut _ _ c.see_book.ensures.told c.in-Shut.is));
-  lent = refl;
-  placed = refused_placed;
-}
+returns-in_err-rules c =
+    let e : c.from_residual-in_err-rules.result ≡ Err c.in_err-rules.field-0.0 = search rules in
+    record {
+      answered = rw e (sym (both_short _ _ c.in_ok-check_length.ensures c.in_ok-check_length-2.ensures ∙ book_refused _ _ _ (finding_shut _ _ c.see_book.ensures.told c.in_err-rules.was)));
+      lent = refl;
+      placed = rw e refused_placed;
+    }
 
-pub returns-in-Good : goal.returns-in-Good
-returns-in-Good c = record {
+pub returns : goal.returns
+returns c = record {
   answered = c.judge_certificate.ensures.answered ∙ sym (both_short _ _ c.in_ok-check_length.ensures c.in_ok-check_length-2.ensures);
   lent = c.judge_certificate.ensures.lent;
   placed = c.judge_certificate.ensures.placed;
