@@ -2,3 +2,4 @@
 pub mod Numbers
 pub mod Carried
 pub mod InTable
+pub mod Text

@@ -1,6 +1,8 @@
 // What the operations answer: W, a refusal, a verdict, what reading and writing answer, and whether a call is covered.
 #![tactic(auto)]
 
+mod text;
+
 ghost use Rattle.std.specs.Prelude.{◌≡◌, ◌<◌, ◌≤◌, MatchResult};
 ghost use Rattle.answers.specs.Numbers.{w_of, paper_refusal};
 ghost use Rattle.answers.specs.Carried.{refusal_at, carried};

@@ -4,7 +4,7 @@
 
 mod sums;
 
-ghost use Rattle.std.specs.Prelude.{◌≡◌, ◌≤◌, length};
+ghost use Rattle.std.specs.Prelude.{◌≤◌, length};
 ghost use Rattle.std.specs.Counts.{IsPrefixLen};
 
 use answers::{Answer, Refusal, Verdict};
@@ -52,35 +52,11 @@ struct Head {
     third: u16,
 }
 
-// ---- memory to lend; the contracts give the lengths, which lending asks for
-
-// A work table of sevens.
-fn numbers() -> [u64; 65536]
-    ensures { 65536 ≡ length result }
-{
-    [7; 65536]
-}
-
-// An output for fields.
-fn places() -> [u16; 65536]
-    ensures { 65536 ≡ length result }
-{
-    [0xABCD; 65536]
-}
-
-// An output for bytes.
-fn bytes() -> [u8; 65536]
-    ensures { 65536 ≡ length result }
-{
-    [0xAB; 65536]
-}
+// How many places are lent at most. What is lent holds sevens, or 0xABCD or 0xAB at each place, so that it shows what was written.
+const PLACES: usize = 65536;
 
 // Bytes for a file, which may be a list of 65,535 fields.
-fn file() -> [u8; 131072]
-    ensures { 131072 ≡ length result }
-{
-    [0; 131072]
-}
+const FILE: usize = 131072;
 
 // ---- what is read
 
@@ -169,22 +145,21 @@ fn print_answer(rt: &impl Print, word: &str, said: Result<usize, Refusal>) {
         Ok(n) => {
             let _ = print!(rt; "{word} {n}");
         }
-        Err(r) => print_verdict(rt, Err(r)),
+        Err(r) => {
+            let _ = print!(rt; "{r}");
+        }
     }
 }
 
 // ---- the operations
 
-fn write_book(list: &[u8], out: &mut [u8]) -> Answer {
-    let mut fields = places();
+// Hands the fields of a list to a step that writes them.
+fn write_fields<F: FnOnce(&[u16]) -> Answer>(list: &[u8], step: F) -> Answer
+    requires { F.IsAlwaysCallable step }
+{
+    let mut fields = [0u16; PLACES];
     let n = fields_of(list, &mut fields);
-    layout::write_book(&fields[..n], out)
-}
-
-fn write_certificate(book: &[u8], list: &[u8], out: &mut [u8]) -> Answer {
-    let mut fields = places();
-    let n = fields_of(list, &mut fields);
-    layout::write_certificate(book, &fields[..n], out)
+    step(&fields[..n])
 }
 
 // Lends memory to a step that prints its answer, then prints the sum of what it left there, and ends the line.
@@ -206,25 +181,33 @@ fn run(
 ) {
     let n = room as usize;
     match operation {
-        Operation::Judge => lend(rt, &mut numbers()[..n], |work| {
+        Operation::Judge => lend(rt, &mut [7u64; PLACES][..n], |work| {
             print_verdict(rt, judging::judge(first, second, work));
         }),
-        Operation::JudgeInput => lend(rt, &mut numbers()[..n], |work| {
+        Operation::JudgeInput => lend(rt, &mut [7u64; PLACES][..n], |work| {
             print_verdict(rt, judging::judge_input(first, work));
         }),
-        Operation::ReadBook => lend(rt, &mut places()[..n], |out| {
+        Operation::ReadBook => lend(rt, &mut [0xABCDu16; PLACES][..n], |out| {
             print_answer(rt, "filled", layout::read_book(first, out));
         }),
-        Operation::ReadCertificate => lend(rt, &mut places()[..n], |out| {
+        Operation::ReadCertificate => lend(rt, &mut [0xABCDu16; PLACES][..n], |out| {
             print_answer(rt, "filled", layout::read_certificate(first, second, out));
         }),
-        Operation::WriteBook => lend(rt, &mut bytes()[..n], |out| {
-            print_answer(rt, "filled", write_book(first, out));
+        Operation::WriteBook => lend(rt, &mut [0xABu8; PLACES][..n], |out| {
+            print_answer(
+                rt,
+                "filled",
+                write_fields(first, |fields| layout::write_book(fields, out)),
+            );
         }),
-        Operation::WriteCertificate => lend(rt, &mut bytes()[..n], |out| {
-            print_answer(rt, "filled", write_certificate(first, second, out));
+        Operation::WriteCertificate => lend(rt, &mut [0xABu8; PLACES][..n], |out| {
+            let said = write_fields(
+                second,
+                |fields| layout::write_certificate(first, fields, out),
+            );
+            print_answer(rt, "filled", said);
         }),
-        Operation::Covers | Operation::Unknown => lend(rt, &mut numbers()[..n], |work| {
+        Operation::Covers | Operation::Unknown => lend(rt, &mut [7u64; PLACES][..n], |work| {
             print_answer(rt, "covered", covers::covers(first, second, third, work));
         }),
     }
@@ -237,12 +220,12 @@ fn run_next<R: Read>(rt: &impl Print, input: &mut R) {
     let operation = head.operation;
     let n = file_length(head.first, operation == Operation::WriteBook);
     let m = file_length(head.second, operation == Operation::WriteCertificate);
-    let mut first = file();
+    let mut first = [0u8; FILE];
     fill(input, &mut first, n);
-    let mut second = file();
+    let mut second = [0u8; FILE];
     fill(input, &mut second, m);
     let k = file_length(head.third, false);
-    let mut third = file();
+    let mut third = [0u8; FILE];
     fill(input, &mut third, k);
     run(
         rt,

@@ -4,6 +4,7 @@ pub mod Puts
 pub mod Printing
 pub mod Turns
 pub mod Printed
+pub mod Texts
 pub mod Layers
 pub mod Demands
 pub mod CheckedLines
