@@ -25,8 +25,7 @@ fn spell(
     ensures { Pushes base count (walked book.now s.now at).met w.old w.new result }
 {
     let mut n = count;
-    let mut walk = Walk::new(book, s, at);
-    while let Some(header) = walk.next() {
+    for header in Walk::new(book, s, at) {
         n = table::push(w, base, n, item_of(header, 1, 0))?;
     }
     Some(n)

@@ -154,8 +154,7 @@ fn level_node(header: Header) -> bool
 pub fn level(book: &[u8], s: &[u8], at: usize) -> bool
     ensures { Levels book.now s.now at result }
 {
-    let mut walk = Walk::new(book, s, at);
-    while let Some(header) = walk.next() {
+    for header in Walk::new(book, s, at) {
         if !level_node(header) {
             return false;
         }

@@ -22,8 +22,7 @@ fn hold_term(book: &[u8], s: &[u8], w: &[u64], base: usize, from: Held, at: usiz
     ensures { Came w.now base (walked book.now s.now at).met from result }
 {
     let mut h = from;
-    let mut walk = Walk::new(book, s, at);
-    while let Some(header) = walk.next() {
+    for header in Walk::new(book, s, at) {
         h = table::second::hold(w, base, h, item_of(header, 1, 0));
     }
     h
@@ -137,8 +136,7 @@ pub fn hold_instance(
         },
         last: Spelt::default(),
     };
-    let mut walk = Walk::new(book, s, at);
-    while let Some(header) = walk.next() {
+    for header in Walk::new(book, s, at) {
         passed = hold_filled(book, certificate, w, base, passed, header, i, j, fills);
         if passed.held.nodes > NODES {
             return Outcome::Full;

@@ -5,7 +5,7 @@ use Rattle.std.proofs.Common.{ap}
 use Rattle.instances.proofs.level.Goals as goal
 
 pub loop-header-init : goal.loop-header-init
-loop-header-init c = levelling_start c.new-walk.ensures
+loop-header-init c = rw c.into_iter-header-iterator.ensures.into_iter_gives (levelling_start c.new-header-items.ensures)
 
 pub returns-then-not-level_node : goal.returns-then-not-level_node
 returns-then-not-level_node c = levelling_not c.loop-header.invariant c.in-Some.ensures.steps _ c.level_node.ensures (ap not c.if-not-level_node.true)
@@ -14,4 +14,4 @@ pub loop-header-preserved : goal.loop-header-preserved
 loop-header-preserved c = levelling_on c.loop-header.invariant c.in-Some.ensures.steps _ c.level_node.ensures (ap not c.if-not-level_node.false)
 
 pub returns : goal.returns
-returns c = levelling_over c.loop-header.invariant c.in_default.ensures.steps
+returns c = levelling_over c.loop-header.invariant c.in-None.ensures.steps

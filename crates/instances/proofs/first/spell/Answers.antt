@@ -3,7 +3,7 @@ use Rattle.instances.proofs.Pushings.{took_plain, pushing_start, pushing_over, p
 use Rattle.instances.proofs.first.spell.Goals as goal
 
 pub loop-header-init : goal.loop-header-init
-loop-header-init c = pushing_start _ _ _ _ _ _ _ c.new-walk.ensures c.requires.room.few
+loop-header-init c = rw c.into_iter-header-iterator.ensures.into_iter_gives (pushing_start _ _ _ _ _ _ _ c.new-header-items.ensures c.requires.room.few)
 
 pub push-requires : goal.push-requires
 push-requires c =
@@ -17,4 +17,4 @@ pub loop-header-preserved : goal.loop-header-preserved
 loop-header-preserved c = pushing_on _ _ _ _ _ _ _ _ _ _ c.loop-header.invariant c.in-Some.ensures.steps (took_plain _ c.item_of.ensures c.push.ensures) c.in_ok-n.was
 
 pub returns : goal.returns
-returns c = spelled _ _ _ _ (pushing_over _ _ _ _ _ _ _ _ _ _ c.loop-header.invariant c.in_default.ensures.steps)
+returns c = spelled _ _ _ _ (pushing_over _ _ _ _ _ _ _ _ _ _ c.loop-header.invariant c.in-None.ensures.steps)

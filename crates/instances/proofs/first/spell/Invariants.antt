@@ -4,4 +4,4 @@ use Rattle.instances.proofs.Pushings.{Pushing}
 use Rattle.instances.proofs.first.spell.Given as goal
 
 abbrev pub invariant-loop-header : goal.invariant-loop-header
-invariant-loop-header l = Pushing itself l.book l.s l.at l.base l.count l.initial.w l.w l.n l.walk
+invariant-loop-header l = Pushing itself l.book l.s l.at l.base l.count l.initial.w l.w l.n l.header-iterator

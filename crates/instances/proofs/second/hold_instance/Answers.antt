@@ -8,8 +8,9 @@ use Rattle.instances.proofs.second.hold_instance.Goals as goal
 pub loop-header-init : goal.loop-header-init
 loop-header-init c =
     let zeros = c.default.ensures in
-    let none = c.default-2.ensures in (
-      coming_start _ _ _ _ c.new-walk.ensures,
+    let none = c.default-2.ensures in
+    rw c.into_iter-header-iterator.ensures.into_iter_gives (
+      coming_start _ _ _ _ c.new-header-items.ensures,
       omega (arith, zeros.0),
       remembers_none none.0 none.1.0 none.1.1,
       record { nodes = zeros.0; parts = refl; code = zeros.1.1.0; a = zeros.1.1.1.0; b = zeros.1.1.1.1 },
@@ -25,4 +26,4 @@ pub loop-header-preserved : goal.loop-header-preserved
 loop-header-preserved c = (coming_on _ c.loop-header.invariant.0 c.in-Some.ensures.steps c.hold_filled-passed.ensures.came, omega (arith, c.if-passed-gt-NODES.false), c.hold_filled-passed.ensures.remembers, c.loop-header.invariant.3)
 
 pub returns : goal.returns
-returns c = against_over _ _ _ _ _ _ _ _ _ _ c.loop-header.invariant.3 c.loop-header.invariant.0 c.in_default.ensures.steps c.outcome.ensures
+returns c = against_over _ _ _ _ _ _ _ _ _ _ c.loop-header.invariant.3 c.loop-header.invariant.0 c.in-None.ensures.steps c.outcome.ensures

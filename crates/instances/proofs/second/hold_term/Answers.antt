@@ -6,7 +6,7 @@ use Rattle.instances.proofs.Comings.{coming_start, coming_over, coming_on, came_
 use Rattle.instances.proofs.second.hold_term.Goals as goal
 
 pub loop-header-init : goal.loop-header-init
-loop-header-init c = (coming_start itself _ _ _ c.new-walk.ensures, omega (arith, c.requires.nodes_bound.0, c.new-walk.ensures.left_is))
+loop-header-init c = rw c.into_iter-header-iterator.ensures.into_iter_gives (coming_start itself _ _ _ c.new-header-items.ensures, omega (arith, c.requires.nodes_bound.0, c.new-header-items.ensures.left_is))
 
 pub hold-h-requires : goal.hold-h-requires
 hold-h-requires c =
@@ -21,4 +21,4 @@ loop-header-preserved c =
     )
 
 pub returns : goal.returns
-returns c = came_term _ _ _ (coming_over itself c.loop-header.invariant.0 c.in_default.ensures.steps)
+returns c = came_term _ _ _ (coming_over itself c.loop-header.invariant.0 c.in-None.ensures.steps)

@@ -6,4 +6,4 @@ use Rattle.instances.proofs.Comings.{Coming}
 use Rattle.instances.proofs.second.hold_term.Given as goal
 
 abbrev pub invariant-loop-header : goal.invariant-loop-header
-invariant-loop-header l = Coming itself l.book l.s l.at l.w l.base l.initial.h l.h l.walk × (l.h.nodes + 2 * l.walk.left ≤ NODES + 512)
+invariant-loop-header l = Coming itself l.book l.s l.at l.w l.base l.initial.h l.h l.header-iterator × (l.h.nodes + 2 * l.header-iterator.left ≤ NODES + 512)
