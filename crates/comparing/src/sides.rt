@@ -46,9 +46,10 @@ fn no_side(n: usize) -> Outcome
     ensures { AmountsEmpty n result }
 {
     if n == 0 {
-        return Outcome::Same;
+        Outcome::Same
+    } else {
+        Outcome::Other
     }
-    Outcome::Other
 }
 
 // The second side of a comparison, where the first has n nodes.

@@ -133,11 +133,11 @@ fn last(
     ensures { Ends book.now certificate.now right j count call at w.old w.new result }
 {
     let any = instances::field(certificate, 1, at);
-    let use_at = any.at;
     if any.value == 0 {
-        return stop_by(book, certificate, w, right, Subject::Call(call), use_at);
+        stop_by(book, certificate, w, right, Subject::Call(call), any.at)
+    } else {
+        last_used(book, certificate, w, right, j, count, call, any.at)
     }
-    last_used(book, certificate, w, right, j, count, call, use_at)
 }
 
 // The parts of an unfold from j on; `before` calls stand before the one where it stops.
@@ -180,9 +180,10 @@ fn stop(
     ensures { StopsAt book.now certificate.now right i count call at w.old w.new result }
 {
     if i == 0 {
-        return stop_by(book, certificate, w, right, Subject::Empty, at);
+        stop_by(book, certificate, w, right, Subject::Empty, at)
+    } else {
+        parts(book, certificate, w, right, 1, count, i - 1, call, at)
     }
-    parts(book, certificate, w, right, 1, count, i - 1, call, at)
 }
 
 // An unfold by rule k, its filling indexed: its head, then its parts.

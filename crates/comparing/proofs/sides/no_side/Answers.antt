@@ -5,5 +5,5 @@ use Rattle.comparing.proofs.sides.no_side.Goals as goal
 pub returns-then-n-eq0 : goal.returns-then-n-eq0
 returns-then-n-eq0 c = record { told = λ w. amounts_none w _ _ c.if-n-eq0.true }
 
-pub returns : goal.returns
-returns c = record { told = λ w. amounts_some w _ _ c.if-n-eq0.false }
+pub returns-else-n-eq0 : goal.returns-else-n-eq0
+returns-else-n-eq0 c = record { told = λ w. amounts_some w _ _ c.if-n-eq0.false }
