@@ -101,9 +101,7 @@ pub fn open_book(s: &[u8], counts: &mut [u8]) -> Opening
 pub fn read_book(book: &[u8], out: &mut [u16]) -> Answer
     ensures { BookRead book.now out.old result out.new }
 {
-    if book.len() > 16384 {
-        return Err(answers::whole(2, W::Book));
-    }
+    answers::check_length(book.len(), 16384, W::Book)?;
     let mut counts = [0u8; 256];
     let file = open_book(book, &mut counts)?;
     if file.fields > out.len() {
@@ -120,9 +118,7 @@ pub fn write_book(fields: &[u16], out: &mut [u8]) -> Answer
     let w = walks::book(true, &[], fields, &mut [], &mut [], &mut []);
     let file = opened_list(fields, W::Book, w)?;
     let n = bytes_for(file.bits);
-    if n > 16384 {
-        return Err(answers::whole(2, W::Book));
-    }
+    answers::check_length(n, 16384, W::Book)?;
     if n > out.len() {
         return Err(answers::whole(8, W::Book));
     }
@@ -156,12 +152,8 @@ fn list_certificate(book: &[u8], counts: &[u8], s: &[u8], out: &mut [u16]) -> An
 pub fn read_certificate(book: &[u8], certificate: &[u8], out: &mut [u16]) -> Answer
     ensures { CertificateRead book.now certificate.now out.old result out.new }
 {
-    if book.len() > 16384 {
-        return Err(answers::whole(2, W::Book));
-    }
-    if certificate.len() > 32768 {
-        return Err(answers::whole(2, W::Certificate));
-    }
+    answers::check_length(book.len(), 16384, W::Book)?;
+    answers::check_length(certificate.len(), 32768, W::Certificate)?;
     let mut counts = [0u8; 256];
     let file = open_book(book, &mut counts)?;
     list_certificate(book, &counts[..file.value], certificate, out)
@@ -175,9 +167,7 @@ fn pack_certificate(book: &[u8], counts: &[u8], fields: &[u16], out: &mut [u8]) 
     let w = walks::certificate(true, book, counts, &[], fields, &mut [], &mut []);
     let file = opened_list(fields, W::Certificate, w)?;
     let n = bytes_for(file.bits);
-    if n > 32768 {
-        return Err(answers::whole(2, W::Certificate));
-    }
+    answers::check_length(n, 32768, W::Certificate)?;
     if n > out.len() {
         return Err(answers::whole(8, W::Certificate));
     }
@@ -189,9 +179,7 @@ fn pack_certificate(book: &[u8], counts: &[u8], fields: &[u16], out: &mut [u8]) 
 pub fn write_certificate(book: &[u8], fields: &[u16], out: &mut [u8]) -> Answer
     ensures { CertificateWritten book.now fields.now out.old result out.new }
 {
-    if book.len() > 16384 {
-        return Err(answers::whole(2, W::Book));
-    }
+    answers::check_length(book.len(), 16384, W::Book)?;
     let mut counts = [0u8; 256];
     let file = open_book(book, &mut counts)?;
     pack_certificate(book, &counts[..file.value], fields, out)

@@ -14,13 +14,13 @@ use Rattle.layout.proofs.Giving.{list_told, writing_is, bad_written}
 use Rattle.answers.proofs.Refusing.{refused_answer}
 use Rattle.layout.proofs.pack_certificate.Goals as goal
 
-pub returns-then-n-gt32768 : goal.returns-then-n-gt32768
+pub returns-in_err-check_length : goal.returns-in_err-check_length
 unfolding w_of
-returns-then-n-gt32768 c = let g = opening_good _ _ (list_told _ (certificate_of c.requires.tree) nothing _ Certificate (beside_ran _ _ _ c.requires c.certificate-w.ensures) c.opened_list.ensures) c.in_ok-file.was in packed_over certificate_place _ _ g 32768 (writing_is _ _ c.requires _) _ (omega (arith, c.if-n-gt32768.true, c.bytes_for-n.ensures)) (refused_answer _ c.whole.ensures)
+returns-in_err-check_length c = let e : c.from_residual-in_err-check_length.result ≡ Err c.in_err-check_length.field-0.0 = search rules in let g = opening_good _ _ (list_told _ (certificate_of c.requires.tree) nothing _ Certificate (beside_ran _ _ _ c.requires c.certificate-w.ensures) c.opened_list.ensures) c.in_ok-file.was in rw e (packed_over certificate_place _ _ g 32768 (writing_is _ _ c.requires _) _ (omega (arith, c.in_err-check_length.ensures.0, c.bytes_for-n.ensures)) (refused_answer _ c.in_err-check_length.ensures.1))
 
 pub returns-then-n-out : goal.returns-then-n-out
 unfolding w_of
-returns-then-n-out c = let g = opening_good _ _ (list_told _ (certificate_of c.requires.tree) nothing _ Certificate (beside_ran _ _ _ c.requires c.certificate-w.ensures) c.opened_list.ensures) c.in_ok-file.was in packed_short certificate_place _ _ g 32768 (writing_is _ _ c.requires _) _ (omega (arith, c.if-n-gt32768.false, c.bytes_for-n.ensures)) (omega (arith, c.if-n-out.true, c.bytes_for-n.ensures)) (refused_answer _ c.whole-then-n-out.ensures)
+returns-then-n-out c = let g = opening_good _ _ (list_told _ (certificate_of c.requires.tree) nothing _ Certificate (beside_ran _ _ _ c.requires c.certificate-w.ensures) c.opened_list.ensures) c.in_ok-file.was in packed_short certificate_place _ _ g 32768 (writing_is _ _ c.requires _) _ (omega (arith, c.in_ok-check_length.ensures, c.bytes_for-n.ensures)) (omega (arith, c.if-n-out.true, c.bytes_for-n.ensures)) (refused_answer _ c.whole.ensures)
 
 pub returns-in_err-file : goal.returns-in_err-file
 unfolding w_of
@@ -28,4 +28,4 @@ returns-in_err-file c = let e : c.from_residual.result ≡ Err c.in_err-file.fie
 
 pub returns : goal.returns
 unfolding w_of
-returns c = let g = opening_good _ _ (list_told _ (certificate_of c.requires.tree) nothing _ Certificate (beside_ran _ _ _ c.requires c.certificate-w.ensures) c.opened_list.ensures) c.in_ok-file.was in packed_filled certificate_place _ _ g 32768 (writing_is _ _ c.requires _) c.bytes_for-n.ensures c.if-n-gt32768.false (omega arith) c.if-n-out.false (beside_ran _ _ _ c.requires c.certificate-again.ensures)
+returns c = let g = opening_good _ _ (list_told _ (certificate_of c.requires.tree) nothing _ Certificate (beside_ran _ _ _ c.requires c.certificate-w.ensures) c.opened_list.ensures) c.in_ok-file.was in packed_filled certificate_place _ _ g 32768 (writing_is _ _ c.requires _) c.bytes_for-n.ensures c.in_ok-check_length.ensures (omega arith) c.if-n-out.false (beside_ran _ _ _ c.requires c.certificate-again.ensures)
