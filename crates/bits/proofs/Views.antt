@@ -37,8 +37,12 @@ bits_append s at w (suc v) =
     joined x y b = omega (arith, ap (λ (n : ℕ). x * n) (pow-suc 2 v) ∙ sym (mul_assoc x (2 ^ v) 2))
 
 -- seven bytes shifted by one lose nothing
-shifted_whole : (s : List ℕ) (k n x : ℕ) → n < 8 → x ≡ bits_at s (8 * k) (8 * n) → (x * 2 ^ 8) % 2 ^ 64 ≡ x * 2 ^ 8
-shifted_whole s k n x l e = shl_exact (8 * n) 8 64 (subst (λ (m : ℕ). m < 2 ^ (8 * n)) (sym e) (bits_lt s (8 * k) (8 * n))) (omega arith)
+shifted_whole : (s : List ℕ) (k n x : ℕ) → 1 ≤ n → n ≤ 8 → x ≡ bits_at s (8 * k) (8 * (n - 1)) → (x * 2 ^ 8) % 2 ^ 64 ≡ x * 2 ^ 8
+shifted_whole s k n x h l e = shl_exact (8 * (n - 1)) 8 64 (subst (λ (m : ℕ). m < 2 ^ (8 * (n - 1))) (sym e) (bits_lt s (8 * k) (8 * (n - 1)))) (omega arith)
+
+-- and a byte more does not wrap
+pub ending_small : (s : List ℕ) (k n x b : ℕ) → 1 ≤ n → x ≡ bits_at s (8 * k) (8 * (n - 1)) → b < 256 → (x * 2 ^ 8) % 2 ^ 64 + b < 2 ^ 64
+ending_small s k n x b h e l = omega arith
 
 module _ (s : List ℕ) (small : Bytes s) where
   -- one byte more
@@ -65,25 +69,20 @@ module _ (s : List ℕ) (small : Bytes s) where
       here : k + 0 ≡ k
       here = omega arith
 
-  -- fewer than eight bytes and one more, as the code joins them
-  pub ending_more : (k i x b : ℕ) → k ≤ i → i < k + 8 → x ≡ bits_at s (8 * k) (8 * (i - k)) → b ≡ byte_at s i
-      → (x * 2 ^ 8) % 2 ^ 64 + b ≡ bits_at s (8 * k) (8 * (i + 1 - k))
-  ending_more k i x b h l e f =
-      ap (λ (m : ℕ). m + b) (shifted_whole s k (i - k) x (omega arith) e)
-      ∙ ap₂ (λ (m j : ℕ). m * 2 ^ 8 + j) e (f ∙ ap (λ (j : ℕ). byte_at s j) place)
-      ∙ sym (byte_more k (i - k))
+  -- a field of fewer than eight bytes and one byte more, as the code joins them
+  pub ending_more : (k n x b : ℕ) → 1 ≤ n → n ≤ 8 → x ≡ bits_at s (8 * k) (8 * (n - 1)) → b ≡ byte_at s (k + n - 1)
+      → (x * 2 ^ 8) % 2 ^ 64 + b ≡ bits_at s (8 * k) (8 * n)
+  ending_more k n x b h l e f =
+      ap (λ (m : ℕ). m + b) (shifted_whole s k n x h l e)
+      ∙ ap₂ (λ (m i : ℕ). m * 2 ^ 8 + i) e (f ∙ ap (λ (i : ℕ). byte_at s i) place)
+      ∙ sym (byte_more k (n - 1))
       ∙ ap (λ (m : ℕ). bits_at s (8 * k) (8 * m)) whole
     where
-      place : i ≡ k + (i - k)
+      place : k + n - 1 ≡ k + (n - 1)
       place = omega arith
 
-      whole : suc (i - k) ≡ i + 1 - k
+      whole : suc (n - 1) ≡ n
       whole = omega arith
-
--- no byte yet
-pub ending_none : (s : List ℕ) (k : ℕ) → 0 ≡ bits_at s (8 * k) (8 * (k - k))
-unfolding bits_at spelled
-ending_none s k = let none : 0 ≡ 8 * (k - k) = omega arith in ap (λ (w : ℕ). bits_at s (8 * k) w) none
 
 -- eight bytes are two fours
 pub two_halves : (s : List ℕ) (k : ℕ) → bits_at s (8 * k) 64 ≡ bits_at s (8 * k) 32 * 2 ^ 32 + bits_at s (8 * (k + 4)) 32

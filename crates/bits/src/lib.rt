@@ -36,6 +36,14 @@ fn has_room(s: &[u8], w: usize, at: usize) -> bool
     w <= 16 && w <= end && at <= end - w
 }
 
+// The byte at a place that is there.
+fn byte(s: &[u8], i: usize) -> u64
+    requires { i < length s.now }
+    ensures { (result ≡ byte_at s.now i) × (result < 256) }
+{
+    u64::from(s[i])
+}
+
 // The byte at a place, 0 past the end.
 fn byte_at(s: &[u8], i: usize) -> u64
     ensures { (result ≡ byte_at s.now i) × (result < 256) }
@@ -51,12 +59,13 @@ fn window(s: &[u8], k: usize) -> u64
     byte_at(s, k) * 65536 + byte_at(s, k + 1) * 256 + byte_at(s, k + 2)
 }
 
-// The four bytes from a place on, as one number. Of two such side by side the compiler makes one load, of `u64::from_be_bytes` eight.
+// The four bytes from a place on, as one number. Of two such side by side the compiler makes one load, of
+// `u64::from_be_bytes` eight.
 fn half(s: &[u8], k: usize) -> u64
     requires { k + 4 ≤ length s.now }
     ensures { result ≡ bits_at s.now (8 * k) 32 }
 {
-    u64::from(u32::from_be_bytes([s[k], s[k + 1], s[k + 2], s[k + 3]]))
+    (byte(s, k) << 24) + (byte(s, k + 1) << 16) + (byte(s, k + 2) << 8) + byte(s, k + 3)
 }
 
 // The eight bytes from a place on, as one number.
@@ -76,25 +85,26 @@ fn last_word(s: &[u8], k: usize) -> u64
     word(s, end - 8) << (8 * (k + 8 - end))
 }
 
-// The eight bytes from a place on, as one number, zeros past the end. It serves the last bytes of a file, and stays out of line so that
-// `view` is small enough for the loops.
-#[inline(never)]
-#[tactic(auto, using(crate::proofs::Views::ending_none))]
-fn ending(s: &[u8], k: usize) -> u64
-    requires { k ≤ 2 ^ 61 }
-    ensures { result ≡ bits_at s.now (8 * k) 64 }
+// The n bytes from a place on, as one number, zeros past the end. Since it calls itself, the compiler leaves it out of line: it serves the
+// last bytes of a file. As a loop with `inline(never)`, and `half` by `u32::from_be_bytes`, the program took 4 of 100 instructions more.
+fn ending(s: &[u8], k: usize, n: usize) -> u64
+    requires { (n ≤ 8) × (k ≤ 2 ^ 61) }
+    ensures { result ≡ bits_at s.now (8 * k) (8 * n) }
 {
-    if k >= s.len() {
+    if n == 0 {
         return 0;
     }
-    if s.len() >= 8 && s.len() < k + 8 {
-        return last_word(s, k);
+    if n == 8 {
+        if s.len() >= 8 {
+            if k >= s.len() {
+                return 0;
+            }
+            if k + 8 > s.len() {
+                return last_word(s, k);
+            }
+        }
     }
-    let mut x = 0;
-    for i in k..k + 8 {
-        x = (x << 8) + byte_at(s, i);
-    }
-    x
+    (ending(s, k, n - 1) << 8) + byte_at(s, k + n - 1)
 }
 
 // The 64 bits from a bit on, zeros past the end; the last eight may be others. That the word is tested as a whole keeps its load whole.
@@ -109,7 +119,7 @@ pub fn view(s: &[u8], at: usize) -> u64
         }
         return x << (at % 8);
     }
-    ending(s, k) << (at % 8)
+    ending(s, k, 8) << (at % 8)
 }
 
 // The low byte of x stored at a place, if there is one. Of a slice's `get_mut` a proof knows the length alone, and no element.
