@@ -22,7 +22,7 @@ fn line_for(input: &[u8], out: &mut [u8; 91]) -> usize
 }
 
 // Reads until `buf` is full, the reader ends or a read fails. The answer is how many bytes it put at the start of `buf`, and
-// the error of the read that failed.
+// the error of the read that failed: `read_exact` does not tell the number, and `read_to_end` needs a heap.
 fn read_full<R: Read>(reader: &mut R, buf: &mut [u8]) -> (usize, io::Result<()>)
     ensures counted { IsPrefixLen result.0 buf.new }
     ensures taken { Consumes (R.remaining reader.old) (R.remaining reader.new) (take result.0 buf.new) }

@@ -78,7 +78,7 @@ fn book_length(input: &[u8]) -> usize
     requires { 2 ≤ length input.now }
     ensures { (result ≡ book_length input.now) × (result ≤ 65535) }
 {
-    256 * (input[0] as usize) + input[1] as usize
+    u16::from_be_bytes([input[0], input[1]]) as usize
 }
 
 // The framing's refusals, which speak of neither file, then both files that the input holds.

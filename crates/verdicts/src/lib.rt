@@ -27,7 +27,8 @@ fn digit(m: usize) -> u8
     48 + m as u8
 }
 
-// A number's digits from a place on, the last digit first; the answer is the place behind them.
+// A number's digits from a place on, the last digit first; the answer is the place behind them. `write!` to a slice does
+// not say which bytes it left there, so it can't stand here.
 fn put_number(out: &mut [u8], at: usize, n: usize) -> usize
     requires { at + length (decimal n) ≤ length out.old }
     ensures answered { result ≡ at + length (decimal n) }

@@ -5,4 +5,4 @@ use Rattle.judging.proofs.book_length.Goals as goal
 
 pub returns : goal.returns
 unfolding book_length
-returns c = omega (arith, c.type_inv.input 0, c.type_inv.input 1)
+returns c = omega (arith, c.from_be_bytes.ensures, c.type_inv.input 0, c.type_inv.input 1)
