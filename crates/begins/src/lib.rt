@@ -9,6 +9,10 @@ ghost use Rattle.begins.specs.Known.{ReadsUse};
 use instances::field;
 use table::{LEFTS, RIGHTS, RULES, USED};
 
+// Both files and the work table are lent as slices of their own, here and in the crates above. A struct of both files was tried: a clause
+// has to say `files.entry.book.now` of it, which is longer than what it saves. A struct around the table, whose invariant is that the
+// table has room, was tried too: where it is made, it is no longer known what was left in the slice.
+
 // A use that was read: where both sides of its claim lie, its index pair, and the bit behind it.
 #[derive(Clone, Copy)]
 pub struct Instance {

@@ -1,5 +1,5 @@
 -- What a look at a right finds: the empty mark, a right that is there, one without index.
-use Rattle.std.proofs.Common.{Ok}
+use Rattle.std.proofs.Common.{Ok, not}
 use Prim.Native.Nat.{ℕ}
 use mathlib.Core.Path.{◌≡◌, refl, sym, subst}
 use mathlib.Core.Logic.{◌≢◌}
@@ -59,6 +59,14 @@ module _ {cert : List ℕ} {right n p : ℕ} {b : Bool} (e : EmptyRight cert rig
   present_unmet q = record { told = λ ars m a. finds_unmet [] (λ h. h (says_true _ (e.told ars m a) q)) }
 
 -- ---- the right of a use
+
+pub not_met : (b : Bool) → not b ≡ true → b ≡ false
+not_met true e = sym e
+not_met false e = refl
+
+pub not_unmet : (b : Bool) → not b ≡ false → b ≡ true
+not_unmet true e = refl
+not_unmet false e = sym e
 
 pub led_nothing : {cert : List ℕ} {right n p : ℕ} → Looks cert right Nothing n p (Ok 0)
 unfolding lead

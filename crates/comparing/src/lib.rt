@@ -11,6 +11,8 @@ ghost use Rattle.comparing.specs.Asked.{LedEquals, asked_at, Checks};
 
 use instances::field;
 
+// The files and the work table are lent as slices of their own: `begins` says why.
+
 // What fills a term of the certificate: nothing, or a use's filling.
 #[derive(Clone, Copy)]
 pub enum Filled {
@@ -19,7 +21,7 @@ pub enum Filled {
 }
 
 // What is built for a comparison: the empty mark; a head or call of a rule at a bit of the book; or a term at a bit of the
-// certificate, reindexed and filled.
+// certificate, reindexed and filled. Its index is two numbers and no struct, since most are written out: (1, 0), (0, 0), (1, 1).
 #[derive(Clone, Copy)]
 pub enum Subject {
     Empty,
@@ -115,7 +117,8 @@ fn led_equal(
     sides::equal(book, certificate, w, number, part, a, b)
 }
 
-// What is asked at each part of each whole.
+// What is asked at each part of each whole: the match on the part that 01 names. What is asked is a case of an enum and no closure:
+// there are four, no caller brings another, and what the checks come to is proved by these cases (`checks_of`).
 fn asked_at(whole: Whole, part: usize) -> Asked
     ensures { result ≡ asked_at whole part }
 {
@@ -164,6 +167,6 @@ pub fn check(
             number: n,
         } => led_equal(book, certificate, w, l, n, part, right, behind, a, b),
         Asked::Level(n) => rights::level(book, certificate, n, part, right),
-        Asked::Present(n) => rights::present(certificate, n, part, right),
+        Asked::Present(n) => rights::led(certificate, n, part, right, Behind::Pending),
     }
 }

@@ -11,36 +11,20 @@ fn is_empty(certificate: &[u8], right: usize) -> bool
     field(certificate, 1, right).value == 0
 }
 
-// A right is the empty mark, else a number.
-fn spent(certificate: &[u8], number: u16, part: usize, right: usize) -> Found
-    ensures { Looks certificate.now right Behind.Judged number part result }
-{
-    if is_empty(certificate, right) {
-        Ok(0)
-    } else {
-        Err(Fault { number, part })
-    }
-}
-
-// A right is not the empty mark, else a number.
-pub fn present(certificate: &[u8], number: u16, part: usize, right: usize) -> Found
-    ensures { Looks certificate.now right Behind.Pending number part result }
-{
-    if is_empty(certificate, right) {
-        Err(Fault { number, part })
-    } else {
-        Ok(0)
-    }
-}
-
-// The right of a use is what the calls behind it ask for, else a number.
+// A right is what the calls behind it ask for: the empty mark where they are judged too, and not the empty mark where they stay
+// pending; else a number.
 pub fn led(certificate: &[u8], number: u16, part: usize, right: usize, behind: Behind) -> Found
     ensures { Looks certificate.now right behind number part result }
 {
-    match behind {
-        Behind::Judged => spent(certificate, number, part, right),
-        Behind::Pending => present(certificate, number, part, right),
-        Behind::Nothing => Ok(0),
+    let met = match behind {
+        Behind::Judged => is_empty(certificate, right),
+        Behind::Pending => !is_empty(certificate, right),
+        Behind::Nothing => true,
+    };
+    if met {
+        Ok(0)
+    } else {
+        Err(Fault { number, part })
     }
 }
 

@@ -14,6 +14,8 @@ use begins::Instance;
 use comparing::{Behind, Filled, Found, Subject, Whole};
 use table::OWN;
 
+// The files and the work table are lent as slices of their own: `begins` says why.
+
 // The line's left, reindexed.
 fn own_left(left: usize, i: u16, j: u16) -> Subject
     ensures { result ≡ Claimed left i j Bare }

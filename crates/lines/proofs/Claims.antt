@@ -34,14 +34,6 @@ use Rattle.begins.proofs.Frames.{known_below}
 
 -- ---- a line's claim among the others
 
-pub notes_line : (k left right : ℕ) (w : List ℕ) → RIGHTS + k < length w → NotesLine k left right w (set (set w (LEFTS + k) left) (RIGHTS + k) right)
-notes_line k left right w room = record {
-  size = length-set (set w (LEFTS + k) left) (RIGHTS + k) right ∙ length-set w (LEFTS + k) left;
-  left_word = get_or-set_other (set w (LEFTS + k) left) (RIGHTS + k) (LEFTS + k) right 0 (λ z. omega arith) ∙ get_or-set_same w (LEFTS + k) left 0 (omega arith);
-  right_word = get_or-set_same (set w (LEFTS + k) left) (RIGHTS + k) right 0 (omega (arith, length-set w (LEFTS + k) left));
-  others = λ i p q. get_or-set_other (set w (LEFTS + k) left) (RIGHTS + k) i right 0 q ∙ get_or-set_other w (LEFTS + k) i left 0 p;
-}
-
 found_more : {A : Type 0} (l : List A) (a b : A) (i : ℕ) → get_elem? (l ++ (a ∷ [])) i ≡ some b → (get_elem? l i ≡ some b) ⊎ ((i ≡ length l) × (a ≡ b))
 found_more [] a b zero e = inr (refl, some-injective a b e)
 found_more [] a b (suc i) e = let z : ◌≡◌ {A = ℕ} 0 1 = cc in absurd (omega arith)

@@ -11,7 +11,9 @@ use answers::{Acceptance, Refusal, Verdict, W};
 use comparing::{Behind, Fault, Filled, Found, Subject, Whole};
 use table::{EMPTY, LEFTS, RIGHTS, USED};
 
-// Where both sides of line k lie, noted.
+// The files and the work table are lent as slices of their own: `begins` says why.
+
+// Where both sides of line k lie, noted. The two lists stand in the table that was lent, at the places that `table/specs/Places` fixes.
 fn note_line(w: &mut [u64], k: usize, left: usize, right: usize)
     requires { (WORDS ≤ length w.old) × (k < ROWS) }
     ensures { NotesLine k left right w.old w.new }
@@ -20,7 +22,7 @@ fn note_line(w: &mut [u64], k: usize, left: usize, right: usize)
     w[RIGHTS + k] = right as u64;
 }
 
-// What stands behind a line's claim: an unfold, or a descent.
+// What stands behind a line's claim: an unfold, or a descent. The tag is the bit that was read; 01 names this match on the line kind.
 fn behind_claim(
     book: &[u8],
     certificate: &[u8],

@@ -11,7 +11,6 @@ ghost use Rattle.terms.specs.Values.{left_of, left_of_all, first_of};
 
 use heads::{Head, Heads};
 use signature::Signature;
-
 pub use signature::arity_of;
 
 // The term that comes next, of at most `left` nodes, its tag from `least` on: the nodes still allowed behind it. The loop goes from power to power.

@@ -9,6 +9,8 @@ use begins::Instance;
 use comparing::{Behind, Filled, Found, Subject, Whole};
 use table::OWN;
 
+// The files and the work table are lent as slices of their own: `begins` says why.
+
 // What stands behind the call where an unfold stops, the j-th of `count`.
 #[tactic(auto, using(crate::proofs::Calls::stays_pending, crate::proofs::Calls::stays_none))]
 fn behind_stop(j: usize, count: usize) -> Behind
@@ -222,7 +224,7 @@ fn unfold_by(
     stop(book, certificate, w, right, i, count, call, at)
 }
 
-// An unfold, behind its claim.
+// An unfold, behind its claim. Where both sides of the claim lie is two numbers and no struct: behind the head the right goes on alone.
 pub fn unfold(
     book: &[u8],
     certificate: &[u8],

@@ -12,4 +12,4 @@ pub returns-in-Level : goal.returns-in-Level
 returns-in-Level c = made_level c.asked_at.ensures c.in-Level.is c.level.ensures
 
 pub returns-in-Present : goal.returns-in-Present
-returns-in-Present c = made_present c.asked_at.ensures c.in-Present.is c.present.ensures
+returns-in-Present c = made_present c.asked_at.ensures c.in-Present.is c.led.ensures
