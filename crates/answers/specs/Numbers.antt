@@ -29,7 +29,8 @@ unfoldable pub paper_verdict : Result Acceptance Refusal → Ruling Pace
 paper_verdict (Ok a) = accept a.line (paper_pace a)
 paper_verdict (Err r) = refuse (paper_refusal r)
 
--- what reading and writing answer: "they answer the number of places filled"
+-- what reading and writing answer: "they answer the number of places filled". It is alike to what `covers` answers, below, and keeps its
+-- own meaning: a count of places is no index.
 pub data Told : Type 0 where
   filled_with : ℕ → Told
   refused_with : Reason → Told

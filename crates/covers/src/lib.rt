@@ -13,6 +13,8 @@ ghost use Rattle.covers.specs.Told.{CoverTold};
 use answers::{Acceptance, Coverage, W};
 use table::LEFTS;
 
+// The files, the call and the work table are lent as slices of their own, as C lends them; `begins` says why no struct holds them.
+
 // The index that was found; 17 where there is none.
 fn index_told(found: Option<usize>) -> Coverage
     ensures { paper_coverage result ≡ told_index (index_found found) }

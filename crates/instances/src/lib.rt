@@ -202,7 +202,8 @@ fn word_of(w: &[u64], fills: usize, header: Header) -> u64
 }
 
 // The instance of the term at a bit of s, reindexed by (i, j) and filled by terms of the certificate as the words at `fills` tell: the
-// nodes of its normal form on the side at `base`, unless they are more than 1,024.
+// nodes of its normal form on the side at `base`, unless they are more than 1,024. The numbers of an index, and a side's place and how many
+// nodes it has, are parameters of their own: a struct of two numbers would be made at each call and taken apart in each clause.
 pub fn build(
     book: &[u8],
     s: &[u8],

@@ -17,6 +17,8 @@ use answers::{Refusal, Verdict, W};
 use layout::seeing::{see_book, see_certificate};
 use table::WORDS;
 
+// The files and the work table are lent as slices of their own, as C lends them; `begins` says why no struct holds them.
+
 // The certificate beside its good book: walked to its end, then judged.
 fn judge_certificate(book: &[u8], counts: &[u8], certificate: &[u8], work: &mut [u64]) -> Verdict
     requires { Beside book.now counts.now × (length certificate.now ≤ 32768) × (WORDS ≤ length work.old) }

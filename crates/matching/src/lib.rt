@@ -16,6 +16,8 @@ use instances::fillings::forget;
 use instances::nodes::Walk;
 use table::{BOUND, EMPTY, FIRST, OFF};
 
+// The files and the work table are lent as slices of their own: `begins` says why.
+
 // The variable x takes the term at a place.
 fn bind(w: &mut [u64], x: usize, p: Place)
     requires { (WORDS ≤ length w.old) × (x < 64) × (p.node ≤ NODES) }

@@ -26,9 +26,7 @@ fn term<R: Heads, G: Signature>(
 {
     let mut from = least;
     let mut above: u16 = 256;
-    let mut rest = left;
-    while rest > 0 {
-        rest -= 1;
+    for rest in (0..left).rev() {
         match r.head(book, end, from, above)? {
             Head::Leaf => return Ok(rest),
             Head::Applied { arity } => return args(r, book, end, arity, 0, rest),

@@ -97,7 +97,8 @@ fn refusal_line(refusal: Refusal, out: &mut [u8]) -> usize
     put_sentence(b"refuse", &[told.number as usize, w, told.a, told.b], out)
 }
 
-// The line of a verdict in the first places of `out`, and its length; where it does not fit, 0 and nothing is written.
+// The line of a verdict in the first places of `out`, and its length; where it does not fit, 0 and nothing is written. Lent bytes and
+// their count, since its promise (`Prints`) speaks of them, and there is no heap for a String.
 pub fn verdict_line(v: Verdict, out: &mut [u8]) -> usize
     ensures { Prints (line_of (paper_verdict v)) out.old result out.new }
 {

@@ -24,6 +24,3 @@ invariant-args-loop g l =
 abbrev pub invariant-term-loop-rest : goal.invariant-term-loop-rest
 invariant-term-loop-rest g l =
     (l.rest ≤ l.left) × Through g.R.Fields.steps (g.G.Signature.arities l.book) l.end l.least l.left l.initial.r l.from l.above l.rest l.r
-
-abbrev pub decreases-term-loop-rest : goal.decreases-term-loop-rest
-decreases-term-loop-rest g l = l.rest
