@@ -22,10 +22,9 @@ pub fn led(certificate: &[u8], number: u16, part: usize, right: usize, behind: B
         Behind::Nothing => true,
     };
     if met {
-        Ok(0)
-    } else {
-        Err(Fault { number, part })
+        return Ok(0);
     }
+    Err(Fault { number, part })
 }
 
 // A right is empty or has a = 0 in every power, else a number.

@@ -9,7 +9,7 @@ use crate::{Compared, Fault, Filled, Found, Subject};
 use instances::{Side, second};
 use table::{EMPTY, FIRST, OWN, Outcome, USED};
 
-// Where the words of a filling stand.
+// Where the words of a filling stand: a place in the table, and no other name of the same value, so no `From`.
 fn fills_of(filled: Filled) -> usize
     ensures { (result ≡ fills_of filled) × (result ≤ USED) }
 {

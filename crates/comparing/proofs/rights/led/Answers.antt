@@ -13,8 +13,8 @@ returns-then-met c =
       | in-Nothing w ↦ led_by w.in-Nothing.is led_nothing
     ]
 
-pub returns-else-met : goal.returns-else-met
-returns-else-met c =
+pub returns : goal.returns
+returns c =
     elim c.match-behind.branch [
       | in-Judged w ↦ led_by w.in-Judged.is (spent_unmet w.is_empty-met.ensures (sym w.met-is ∙ c.if-met.false))
       | in-Pending w ↦ led_by w.in-Pending.is (present_unmet w.is_empty.ensures (not_unmet _ (sym w.met-is ∙ c.if-met.false)))
