@@ -66,6 +66,7 @@ pub fn rule<R: Heads, G: Signature>(r: &mut R, book: G) -> Result<u16, u16>
 }
 
 // The number m noted at a place, if there is one.
+// Of a slice's `get_mut` a proof knows the length alone, and no element.
 fn note(counts: &mut [u8], k: usize, m: u8)
     ensures { counts.new ≡ set counts.old k m }
 {

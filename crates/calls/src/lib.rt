@@ -32,6 +32,7 @@ impl Place {
 // ---- where each term ends
 
 // The arity of a symbol, 16 where there is no such symbol.
+// No Option: `arities` has that number.
 #[tactic(auto, using(crate::proofs::Arities::large_symbol))]
 fn arity_of(book: &[u8], f: u64) -> usize
     ensures { result ≡ arities book.now f }

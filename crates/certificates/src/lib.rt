@@ -13,6 +13,7 @@ use terms::signature::Signature;
 fn right<R: Heads, G: Signature>(r: &mut R, book: G) -> Result<(), u16>
     ensures { Comes R.steps (a_right (G.arities book)) r.old silent result r.new }
 {
+    // 01's own bit: an enum of its two values would only be matched once more
     match r.take(1, 0, 2, 4)? {
         0 => Ok(()),
         _ => {
@@ -80,6 +81,7 @@ fn kind<R: Heads, G: Signature>(
 ) -> Result<(), u16>
     ensures { Comes R.steps (a_kind (G.arities book) counts.now line tag) r.old silent result r.new }
 {
+    // 01's own tag, as `a_kind` tells it
     match tag {
         0 => unfold(r, book, counts, line),
         _ => descent(r, book, counts, line),

@@ -13,6 +13,7 @@ fn is_empty(certificate: &[u8], right: usize) -> bool
 
 // A right is what the calls behind it ask for: the empty mark where they are judged too, and not the empty mark where they stay
 // pending; else a number.
+// A check that is met and reads nothing further ends at bit 0, as `Looks` has it: one type for all checks, so that `?` hands on any of them.
 pub fn led(certificate: &[u8], number: u16, part: usize, right: usize, behind: Behind) -> Found
     ensures { Looks certificate.now right behind number part result }
 {

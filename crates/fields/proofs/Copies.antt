@@ -5,8 +5,7 @@ use mathlib.Core.Path.{◌≡◌, refl, sym, ap, ◌∙◌, subst}
 use mathlib.Core.Option.{Option, none, some}
 use native.Mathlib.Omega.{arith}
 use Rattle.fields.specs.declared.copier.Copier.{Copier}
-use Rattle.fields.specs.declared.Walker.{Walker}
-use Rattle.fields.specs.Source.{Field, Walk, source}
+use Rattle.fields.specs.Source.{Field, source}
 use Rattle.fields.specs.Kinds.{bits, test}
 use Rattle.fields.specs.Grammar.{Grammar, done, ask, on_field, tested}
 use Rattle.fields.specs.Run.{State, state, Result, run, Shown, Ran}

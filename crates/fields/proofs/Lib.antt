@@ -1,7 +1,6 @@
 -- The laws of sources, grammars and runs.
 pub mod Sources
 pub mod Ranges
-pub mod Runs
 pub mod Seqs
 pub mod Alongs
 pub mod Copies

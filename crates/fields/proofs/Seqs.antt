@@ -2,7 +2,6 @@
 use Rattle.std.specs.Prelude.{Ok, Err}
 use mathlib.Core.Path.{◌≡◌, refl, sym, ap, ◌∙◌, subst}
 use mathlib.Core.List.{List}
-use mathlib.Core.Bool.{true}
 use mathlib.Core.Option.{Option, none, some}
 use Prim.Native.Nat.{ℕ}
 use native.Mathlib.Omega.{arith}
@@ -10,7 +9,7 @@ use Rattle.fields.specs.declared.Walker.{Walker}
 use Rattle.fields.specs.Source.{Field}
 use Rattle.fields.specs.Source.{Walk}
 use Rattle.fields.specs.Source.{Source}
-use Rattle.fields.specs.Kinds.{FieldKind, bits, Range, test, spent}
+use Rattle.fields.specs.Kinds.{FieldKind, bits, Range, test}
 use Rattle.fields.specs.Grammar.{Grammar, done, ask, bind, look, on_field, tested}
 use Rattle.fields.specs.Run.{State, state, passed, Result, run, Shown, shown, Ran}
 use Rattle.fields.specs.Run.Result.{ok, no}
@@ -149,12 +148,6 @@ pub ran_done : {A : Type 0} {src : Source} {val : A → ℕ} (a : A) (c : Walker
 unfolding run
 ran_done a c ws bs = record { told = refl }
 
--- no node is allowed any more
-pub ran_spent : {A : Type 0} {src : Source} {val : A → ℕ} (k : FieldKind) (r : Range) (next : ℕ → Grammar A) (c : Walker) (ws bs : List ℕ)
-    → spent r ≡ true → Ran src (ask k r next) c ws bs val (Err (6, c)) ws bs
-unfolding run
-ran_spent k r next c ws bs e = record { told = rw e }
-
 -- ---- a walk by its result
 
 module _ {A : Type 0} {src : Source} {p : Grammar A} {c d : Walker} {ws bs ws₁ bs₁ : List ℕ} {val : A → ℕ} where
@@ -163,6 +156,3 @@ module _ {A : Type 0} {src : Source} {p : Grammar A} {c d : Walker} {ws bs ws₁
   ran_ok e q = record {
     told = ap (λ (n : ℕ). record { walk = Ok (n, d); words = ws₁; bytes = bs₁ }) q ∙ ap (shown val) (sym e);
   }
-
-  pub ran_no : {m : ℕ} → run src p (state c ws bs) ≡ no m (state d ws₁ bs₁) → Ran src p c ws bs val (Err (m, d)) ws₁ bs₁
-  ran_no e = record { told = ap (shown val) (sym e) }

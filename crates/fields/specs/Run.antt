@@ -4,8 +4,8 @@ use Rattle.bits.specs.Put.{put_field}
 use Rattle.fields.specs.declared.Walker.{Walker}
 use Rattle.fields.specs.Source.{Walk}
 use Rattle.fields.specs.Source.{Source, moved}
-use Rattle.fields.specs.Kinds.{FieldKind, Range, bits, test, Bounded}
-use Rattle.fields.specs.Grammar.{Grammar, done, ask, field, look, on_field, tested}
+use Rattle.fields.specs.Kinds.{bits, test}
+use Rattle.fields.specs.Grammar.{Grammar, done, ask, look, on_field, tested}
 
 pub record State : Type 0 where
   pub cursor : Walker
@@ -45,7 +45,3 @@ shown val (no m σ) = record { walk = Err (m, σ.cursor); words = σ.words; byte
 -- a walk that began at c, with the outputs ws and bs, came to r and left ws₁ and bs₁
 pub record Ran {A : Type 0} (src : Source) (p : Grammar A) (c : Walker) (ws bs : List ℕ) (val : A → ℕ) (r : Walk) (ws₁ bs₁ : List ℕ) : Type 0 where
   pub told : record { walk = r; words = ws₁; bytes = bs₁ } ≡ shown val (run src p (state c ws bs))
-
--- the same of one field, of whatever kind and range the two bounds tell
-pub record Took (src : Source) (w least end m : ℕ) (c : Walker) (ws bs : List ℕ) (r : Walk) (ws₁ bs₁ : List ℕ) : Type 0 where
-  pub ran : (k : FieldKind) (range : Range) → Bounded k range w least end m → Ran src (field k range) c ws bs (λ v. v) r ws₁ bs₁

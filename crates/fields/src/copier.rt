@@ -1,7 +1,7 @@
 // A copier: it walks over fields, packed in bytes or listed as numbers, and puts each one that it passes into two outputs.
 ghost use Rattle.std.specs.Prelude.{◌≡◌, ◌<◌, ◌≤◌, ◌^◌, set};
-ghost use Rattle.bits.specs.Put.{put_field};
-ghost use Rattle.fields.specs.Source.{listed_field, start};
+ghost use Rattle.fields.specs.Source.{listed_field};
+ghost use Rattle.fields.specs.Copying.{copied};
 
 use crate::{Field, Fields, Walker};
 
@@ -31,11 +31,31 @@ pub fn listed_at(l: &[u16], w: usize, n: usize) -> Field
 }
 
 // The number v put at a place, if there is one.
+// Of a slice's `get_mut` a proof knows the length alone, and no element.
 fn put_word(words: &mut [u16], n: usize, v: u16)
     ensures { words.new ≡ set words.old n v }
 {
     if n < words.len() {
         words[n] = v;
+    }
+}
+
+impl Copier<'_> {
+    // Past a field of w bits with the value v, which is put into both outputs.
+    pub fn put(&mut self, w: usize, v: u16)
+        requires { (w ≤ 16) × (self.old.at.n < 2 ^ 32) × (self.old.at.bit < 2 ^ 32) }
+        ensures { self.new ≡ copied w v self.old }
+    {
+        let at = self.at.bit;
+        let n = self.at.n;
+        put_word(self.words, n, v);
+        let b = bits::Cursor { at };
+        let _past = b.put(w, v, self.bytes);
+        self.at = Walker {
+            bit: at + w,
+            n: n + 1,
+            listed: self.at.listed,
+        };
     }
 }
 
@@ -67,15 +87,6 @@ impl Fields for Copier<'_> {
     }
 
     fn pass(&mut self, w: usize, v: u16) {
-        let at = self.at.bit;
-        let n = self.at.n;
-        put_word(self.words, n, v);
-        let b = bits::Cursor { at };
-        let _past = b.put(w, v, self.bytes);
-        self.at = Walker {
-            bit: at + w,
-            n: n + 1,
-            listed: self.at.listed,
-        };
+        self.put(w, v);
     }
 }

@@ -4,11 +4,13 @@
 
 pub mod copier;
 
-ghost use Rattle.std.specs.Prelude.{◌≡◌, ℕ, ◌<◌, ◌^◌, Ok, IfOk};
+ghost use Rattle.std.specs.Prelude.{◌≡◌, ◌<◌, ◌^◌, IfOk, Ok};
+ghost use Rattle.fields.specs.Source.{start};
 ghost use Rattle.fields.specs.Along.{Steps, Takes};
 
 // How far a walk has come: the bits and the fields passed. The next field stands at bit `bit` of the bytes or, if the
 // source is a list, at place `n` of the list.
+// The flag belongs to the place, since `field_at`, `source` and `start`, of which theorems speak, have it there.
 #[derive(Clone, Copy)]
 pub struct Walker {
     pub bit: usize,
@@ -16,7 +18,21 @@ pub struct Walker {
     pub listed: bool,
 }
 
+impl Walker {
+    // At a file's first field.
+    pub fn first(listed: bool) -> Walker
+        ensures { result ≡ start listed }
+    {
+        Walker {
+            bit: 0,
+            n: 0,
+            listed,
+        }
+    }
+}
+
 // What stands at a place: a field's value, or the number of its refusal.
+// A refusal is told by 01's number, here and in `Walk`, since that number is what `listed_field`, `look` and `tested` in specs/ tell.
 pub type Field = Result<u16, u16>;
 
 // What a walk comes to: a value and the walker past it, or the number of a refusal and the walker where it is given.

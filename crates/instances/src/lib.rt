@@ -88,6 +88,7 @@ pub struct Passed {
 }
 
 // The field of w bits at a bit.
+// What isn't there reads as 0, and ends at 0: of a file that was walked nothing is missing, and an Option would be taken apart at each call.
 pub fn field(s: &[u8], w: usize, at: usize) -> Read
     requires { w ≤ 16 }
     ensures { Takes s.now w at result }
@@ -184,6 +185,7 @@ fn item_of(header: Header, i: u16, j: u16) -> Item
 }
 
 // The word at `fills` for a node: 0, or one more than the place of its term.
+// No Option: the words that are compared with it lie in the table.
 fn word_of(w: &[u64], fills: usize, header: Header) -> u64
     requires { fills + 64 ≤ length w.now }
     ensures { result ≡ word_of w.now fills header }

@@ -14,6 +14,7 @@ pub fn header_of(book: &[u8], x: u64, at: usize, room: usize) -> Header
         return Header::Missing;
     }
     let rest = room - at;
+    // 01's own tags: `Header` is the enum of them
     match (x >> 62) % 4 {
         0 => {
             if rest < 8 {

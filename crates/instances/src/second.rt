@@ -1,5 +1,7 @@
 // The second side of a comparison: an instance of a packed term, walked against the nodes of the first. Where the term
 // that was spelled last comes again, the stored nodes are compared with those of its earlier place.
+// Its functions are no twins of those in `first`: these write nodes and can run out of room, those only read, count on behind a difference, and carry
+// a power that waits. A trait over both would state every clause twice, once as pushed and once as held.
 ghost use Rattle.std.specs.Prelude.{◌+◌, ◌-◌, ◌≤◌, ◌^◌, length};
 ghost use mathlib.Core.List.{flat_map};
 ghost use Rattle.table.specs.Places.{NODES};

@@ -77,13 +77,6 @@ module _ (book l counts : List ℕ) (h : Beside book counts) where
   pub arities_known : (λ f. arity_at book l false f) ≡ arity_in h.tree.arities
   arities_known = opened_arities book l h.opened
 
-  pub few_counts : length counts < 256
-  unfolding call_counts
-  few_counts =
-      let f = (book_fits book h.opened).count in
-      let e : length (call_counts h.tree.rules) ≡ length h.tree.rules = length-map h.tree.rules _ in
-      rw h.counted (omega arith)
-
   -- and the certificate's
   pub beside_ran : {src : Source} {c : Walker} {ws bs ws₁ bs₁ : List ℕ} {r : Walk}
       → Ran src (a_certificate (λ f. arity_at book l false f) counts) c ws bs nothing r ws₁ bs₁

@@ -2,7 +2,7 @@
 #![tactic(auto)]
 
 pub mod seeing;
-mod walks;
+pub mod walks;
 
 ghost use Rattle.std.specs.Prelude.{◌≡◌, ◌≤◌, ◌*◌, ◌^◌, length};
 ghost use Rattle.bits.specs.Packed.{bytes_for};

@@ -14,7 +14,7 @@ use fields::copier::Copier;
 use fields::{Walk, Walker};
 use terms::signature::{Listed, Packed};
 
-// What a walk comes to, with the walker where it stands.
+// What a walk comes to, with the walker where it stands: it goes beside a refusal too, so `?` doesn't do, here and below.
 fn ended(found: Result<usize, u16>, at: Walker) -> Walk
     ensures { result ≡ walk_of found at }
 {
@@ -63,17 +63,6 @@ fn call_by(file: &mut Copier<'_>, book: &[u8]) -> Walk
     }
 }
 
-// The walker at a file's first field.
-fn first(listed: bool) -> Walker
-    ensures { result ≡ start listed }
-{
-    Walker {
-        bit: 0,
-        n: 0,
-        listed,
-    }
-}
-
 // A book, in bytes or in a list: how many rules it has. How many calls each has is noted.
 pub fn book(
     listed: bool,
@@ -86,7 +75,7 @@ pub fn book(
     ensures walked { Ran (source s.now l.now) a_book (start listed) words.old bytes.old rules_of_book result words.new bytes.new }
     ensures counted { CountedBook (source s.now l.now) (state (start listed) words.old bytes.old) counts.old counts.new }
 {
-    let at = first(listed);
+    let at = Walker::first(listed);
     let mut file = Copier {
         s,
         l,
@@ -109,7 +98,7 @@ pub fn certificate(
 ) -> Walk
     ensures { Ran (source s.now l.now) (a_certificate (arity_at book.now [] false) counts.now) (start listed) words.old bytes.old nothing result words.new bytes.new }
 {
-    let at = first(listed);
+    let at = Walker::first(listed);
     let mut file = Copier {
         s,
         l,
@@ -124,7 +113,7 @@ pub fn certificate(
 pub fn call(book: &[u8], s: &[u8], l: &[u16], words: &mut [u16], bytes: &mut [u8]) -> Walk
     ensures { Ran (source s.now l.now) (a_call (arity_at book.now [] false)) (start false) words.old bytes.old nothing result words.new bytes.new }
 {
-    let at = first(false);
+    let at = Walker::first(false);
     let mut file = Copier {
         s,
         l,

@@ -19,6 +19,7 @@ use table::{BOUND, EMPTY, FIRST, OFF};
 // The files and the work table are lent as slices of their own: `begins` says why.
 
 // The variable x takes the term at a place.
+// A place is two words, since C lends the table and it holds numbers alone.
 fn bind(w: &mut [u64], x: usize, p: Place)
     requires { (WORDS ≤ length w.old) × (x < 64) × (p.node ≤ NODES) }
     ensures { w.new ≡ set (set w.old (BOUND + x) (p.node + 1)) (OFF + x) p.used }

@@ -108,31 +108,7 @@ module _ {A B : Type 0} {s : List ℕ} {p : Grammar A} (h : A → B) {c : Cursor
   pub seq_last : Scans s p c val r → Scans s (bind p (λ a. done (h a))) c val₂ r
   seq_last first = record { told = first.told ∙ sym (last_same s h val val₂ same p c) }
 
-  -- and taken apart again
-  pub seq_first : Scans s (bind p (λ a. done (h a))) c val₂ r → Scans s p c val r
-  seq_first whole = record { told = whole.told ∙ last_same s h val val₂ same p c }
-
 -- nothing is left to read
 pub scan_done : {A : Type 0} {s : List ℕ} {val : A → ℕ} (a : A) (c : Cursor) → Scans s (done a) c val (Ok (val a, c))
 unfolding glance
 scan_done a c = record { told = refl }
-
--- no node is allowed any more
-pub scan_spent : {A : Type 0} {s : List ℕ} {val : A → ℕ} (k : FieldKind) (r : Range) (next : ℕ → Grammar A) (c : Cursor) → spent r ≡ true
-    → Scans s (ask k r next) c val (Err (6, c))
-unfolding glance
-scan_spent k r next c e = record { told = rw e }
-
--- ---- a walk by its glance
-
-module _ {A : Type 0} {s : List ℕ} {p : Grammar A} {c d : Cursor} {val : A → ℕ} where
-  pub scan_ok : {a : A} {v : ℕ} → glance s p c ≡ ok a d → v ≡ val a → Scans s p c val (Ok (v, d))
-  scan_ok e q = record { told = ap (λ (n : ℕ). Ok (n, d)) q ∙ ap (glanced val) (sym e) }
-
-  pub scan_no : {m : ℕ} → glance s p c ≡ no m d → Scans s p c val (Err (m, d))
-  scan_no e = record { told = ap (glanced val) (sym e) }
-
--- a refusal, whatever number a good walk would hand back
-pub dropped_no : {A : Type 0} {s : List ℕ} {p : Grammar A} {c d : Cursor} {val num : A → ℕ} {r : Scan} {m : ℕ} → Scans s p c val r → r ≡ Err (m, d)
-    → Scans s p c num (Err (m, d))
-dropped_no walk e = scan_no (refused walk e)

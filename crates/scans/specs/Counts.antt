@@ -10,10 +10,6 @@ use Rattle.books.specs.Counts.{noted}
 use Rattle.scans.specs.Glance.{glance, first_bit}
 use Rattle.scans.specs.Glance.Glance.{ok}
 
--- if the rules were read, each one's number of calls was noted from place k on
-pub record Counted (s : List ℕ) (p : Grammar (Book Exp)) (c : Cursor) (k : ℕ) (before after : List ℕ) : Type 0 where
-  pub all : (rs : Book Exp) (d : Cursor) → glance s p c ≡ ok rs d → after ≡ noted before k (call_counts rs)
-
--- the same of a whole book
+-- if a whole book was read, each rule's number of calls was noted from place 0 on
 pub record CountedBook (s before after : List ℕ) : Type 0 where
   pub all : (b : RuleBook) (d : Cursor) → glance s a_book first_bit ≡ ok b d → after ≡ noted before 0 (call_counts b.rules)

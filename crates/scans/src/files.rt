@@ -1,4 +1,4 @@
-// Both files, walked from their first bit on.
+// Both files, walked from their first bit on. Where the walk stands goes beside a refusal too, so `?` doesn't do.
 ghost use Rattle.std.specs.Prelude.{false, []};
 ghost use Rattle.terms.specs.Arity.{arity_at};
 ghost use Rattle.books.specs.Counts.{rules_of_book};

@@ -78,6 +78,7 @@ fn head_at<G: Signature>(book: G, s: &[u8], end: u16, c: Cursor, least: u16, abo
     if tag < least as u64 {
         return Err((4, c));
     }
+    // 01's own tags: an enum of them would only be matched once more
     match tag {
         0 => {
             if left < 8 {

@@ -47,6 +47,7 @@ pub enum Item {
 }
 
 // The three words of a stored node: its kind and its name, and the numbers a and b of a power.
+// The kind is the first word's remainder by 3, here and wherever a node lies in the table, which C lends and which holds numbers alone.
 #[derive(Clone, Copy, Default, PartialEq, Eq)]
 pub struct Triple {
     pub code: u64,

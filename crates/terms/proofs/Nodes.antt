@@ -1,45 +1,19 @@
 -- The cases of the grammar of terms, as the code meets them, and that the allowance falls.
-use Rattle.std.specs.Prelude.{Ok, Err}
 use Prim.Native.Nat.{ℕ, zero, suc, ◌-◌, ◌≤◌}
 use mathlib.Core.Path.{◌≡◌, refl}
-use mathlib.Core.List.{List}
 use mathlib.Core.Bool.{Bool, true, false, cond}
 use mathlib.Core.Option.{some-ne-none}
 use mathlib.Core.Logic.{◌≢◌}
 use native.Mathlib.Omega.{arith}
 use borrow.Author.Tests.{eq-eqb, ne_eqb}
 use lib.Dec.{eqb}
-use Rattle.fields.specs.declared.Walker.{Walker}
-use Rattle.fields.specs.Source.{Walk}
-use Rattle.fields.specs.Source.{Source}
 use Rattle.patterns.specs.Term.{nil, cons}
 use Rattle.fields.specs.Kinds.{any, node}
 use Rattle.fields.specs.Kinds.{FieldKind as kind}
 use Rattle.fields.specs.Grammar.{Grammar, bind, field}
-use Rattle.fields.specs.Run.{Ran}
 use Rattle.fields.proofs.Many.{Rounds}
-use Rattle.fields.proofs.Seqs.{ran_spent}
-use Rattle.fields.proofs.Always.{Always, always_bind, always_then, always_handed, always_weaken}
+use Rattle.fields.proofs.Always.{Always, always_bind, always_then, always_weaken}
 use Rattle.grammar.specs.Terms.{Grown, GrownAll, a_symbol, a_raise, a_variable, an_applied, a_raised, a_node, a_term, args_of}
-use Rattle.terms.specs.Values.{left_of}
-
-module _ {src : Source} (deep : ℕ) (ar : ℕ → ℕ) (end least above left : ℕ) {c : Walker} {ws bs : List ℕ} where
-  pub term_none : left ≡ 0 → Ran src (a_term deep ar end least above left) c ws bs left_of (Err (6, c)) ws bs
-  unfolding a_term bind field
-  term_none h = go deep
-    where
-      go : (deep : ℕ) → Ran src (a_term deep ar end least above left) c ws bs left_of (Err (6, c)) ws bs
-      go zero = ran_spent kind.tag (node least 0) _ c ws bs refl
-      go (suc deep) = ran_spent kind.tag (node least left) _ c ws bs (eq-eqb left 0 h)
-
-pub term_some : {src : Source} (deep : ℕ) (ar : ℕ → ℕ) (end least above left : ℕ) {c : Walker} {ws bs ws₁ bs₁ : List ℕ} {r : Walk}
-    → left ≢ 0 → left ≤ deep
-    → ((d : ℕ) → left - 1 ≤ d
-    → Ran src (bind (field kind.tag (node least left)) (a_node (λ s k. a_term d ar end 0 s k) ar end above (left - 1))) c ws bs left_of r ws₁ bs₁)
-    → Ran src (a_term deep ar end least above left) c ws bs left_of r ws₁ bs₁
-unfolding a_term
-term_some zero ar end least above left n h f = absurd (n (omega arith))
-term_some (suc deep) ar end least above left n h f = f deep (omega arith)
 
 -- ---- the tags
 
@@ -107,7 +81,3 @@ term_falls (suc deep) ar end least above left =
     (λ n. always_weaken (Below (left - 1)) (Below left) (λ g h. omega arith)
     (a_node (λ s k. a_term deep ar end 0 s k) ar end above (left - 1) n)
     (node_falls (λ s k. a_term deep ar end 0 s k) (λ s k. term_falls deep ar end 0 s k) ar end above (left - 1) n))
-
-pub term_left : {src : Source} (deep : ℕ) (ar : ℕ → ℕ) (end least above left : ℕ) {c d : Walker} {ws bs ws₁ bs₁ : List ℕ}
-    {r : Walk} {k : ℕ} → Ran src (a_term deep ar end least above left) c ws bs left_of r ws₁ bs₁ → r ≡ Ok (k, d) → k ≤ left
-term_left deep ar end least above left h e = always_handed h e (λ n. n ≤ left) (term_falls deep ar end least above left)

@@ -65,9 +65,6 @@ pub record Through {S : Type 0} (st : Steps S) (ar : ℕ → ℕ) (end least lef
   pub whole : (r : Result ℕ ℕ) (z : S) → ((deep : ℕ) → rest ≤ deep → Comes st (a_term deep ar end from above rest) y left_of r z)
       → (deep : ℕ) → left ≤ deep → Comes st (a_term deep ar end least 256 left) x left_of r z
 
-pub through_here : {S : Type 0} {st : Steps S} {ar : ℕ → ℕ} {end least left : ℕ} {x : S} → Through st ar end least left x least 256 left x
-through_here = record { whole = λ r z h. h }
-
 module _ {S : Type 0} {st : Steps S} {ar : ℕ → ℕ} {end least left : ℕ} {x : S} {from above rest : ℕ} {y : S} (T : Through st ar end least left x from above rest y) where
   pub through_none : rest ≡ 0 → (deep : ℕ) → left ≤ deep → Comes st (a_term deep ar end least 256 left) x left_of (Err 6) y
   through_none h = T.whole (Err 6) y (λ deep k. term_none deep ar end from above rest h)

@@ -56,6 +56,7 @@ fn unary<R: Fields, G: Signature>(r: &mut R, book: G, above: u16) -> Result<u16,
 }
 
 // The least number that b may be beside a.
+// An `if`, as the range in `an_exponent` has it.
 fn least_beside(a: u16) -> u16
     ensures { result ≡ cond (eqb a 0) 1 0 }
 {
@@ -90,6 +91,7 @@ pub fn head_by_fields<R: Fields, G: Signature>(
 ) -> Result<Head, u16>
     ensures { HeadAt R.steps (G.arities book) end least above r.old result r.new }
 {
+    // 01's own tags: an enum of them would only be matched once more
     match r.take(2, least, 3, 4)? {
         0 => {
             r.take(6, 0, 64, 4)?;

@@ -25,6 +25,7 @@ fn term<R: Heads, G: Signature>(
     ensures { (deep : ℕ) → left ≤ deep → Comes R.steps (a_term deep (G.arities book) end least 256 left) r.old left_of result r.new }
 {
     let mut from = least;
+    // no symbol is 256: `a_term` begins with that number above the root
     let mut above: u16 = 256;
     for rest in (0..left).rev() {
         match r.head(book, end, from, above)? {

@@ -3,6 +3,7 @@ ghost use Rattle.std.specs.Prelude.{◌≡◌, ℕ, ◌<◌, ◌≤◌, ◌^◌,
 ghost use Rattle.terms.specs.Arity.{number_at, arity_at, NibbleOf};
 
 // What tells how many arguments a symbol takes, 16 where there is no such symbol.
+// It is 16 and no Option, since `arity_at` and `arity_in` in specs/, of which theorems speak, have that number.
 pub trait Signature: Copy {
     ghost arities: { Self → ℕ → ℕ };
 

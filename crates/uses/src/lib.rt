@@ -41,6 +41,7 @@ fn uses<R: Heads, G: Signature>(r: &mut R, book: G, line: u16, n: u16) -> Result
 fn last<R: Heads, G: Signature>(r: &mut R, book: G, line: u16) -> Result<(), u16>
     ensures { Comes R.steps (a_last (G.arities book) line) r.old silent result r.new }
 {
+    // 01's own bit: an enum of its two values would only be matched once more
     match r.take(1, 0, 2, 4)? {
         0 => Ok(()),
         _ => use_line(r, book, line),
