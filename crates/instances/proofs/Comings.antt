@@ -1,5 +1,5 @@
 -- A walk whose nodes come to a second side: those that came so far, with those that are still to come, are what the whole walk gives.
-use Rattle.std.specs.Prelude.{Some, None}
+use Rattle.std.specs.Prelude.{Option, Some, None}
 use Prim.Native.Nat.{ℕ, ◌+◌, ◌*◌, ◌≤◌, ◌<◌, ◌^◌}
 use mathlib.Core.Path.{◌≡◌, sym, ap, subst, ◌∙◌}
 use mathlib.Core.List.{List, [], ◌∷◌, flat_map}
@@ -127,7 +127,7 @@ module _ (book s cert w : List ℕ) (at fills i j base n : ℕ) {h₀ h : Held} 
   tracked : Tracked w base h
   tracked = record { n = n; ns = _; tracks = g.holds.told n [] held }
 
-  pub instance_comes : {last : Spelt} → Room base n w → fills + 64 ≤ length w → h.nodes ≤ NODES → i < 65536 → j < 65536 → Remembers book cert w base NODES last
+  pub instance_comes : {last : Option Spelt} → Room base n w → fills + 64 ≤ length w → h.nodes ≤ NODES → i < 65536 → j < 65536 → Remembers book cert w base NODES last
       → Room base h.parts w × ((h.nodes ≤ NODES) × (h.power.a + h.power.b ≤ 2 ^ 60) × (fills + 64 ≤ length w) × Remembers book cert w base NODES last × Tracked w base h)
   instance_comes room low few small-i small-j m = (
     coming_room (filled book cert w fills i j) g (record { within = room.within; few = omega (arith, room.few, none.parts) }),

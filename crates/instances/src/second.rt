@@ -28,7 +28,7 @@ fn hold_term(book: &[u8], s: &[u8], w: &[u64], base: usize, from: Held, at: usiz
     h
 }
 
-// Whether the term that was spelled last comes again, where no power waits, and the stored nodes from the next on are those that it became.
+// Whether a term that was spelled comes again, where no power waits, and the stored nodes from the next on are those that it became.
 fn is_repeated(w: &[u64], base: usize, h: Held, word: u64, last: Spelt) -> bool
     requires room { Room base h.parts w.now }
     requires nodes_bound { (h.nodes ≤ NODES) × (last.from + last.count ≤ NODES) }
@@ -41,16 +41,16 @@ fn is_repeated(w: &[u64], base: usize, h: Held, word: u64, last: Spelt) -> bool
 }
 
 // The term of a word that brought a second side from one state to another, if no power waits on either end and no node differs; else the one before it.
-fn remembered(before: Held, after: Held, word: u64, last: Spelt) -> Spelt
+fn remembered(before: Held, after: Held, word: u64, last: Option<Spelt>) -> Option<Spelt>
     requires { Onward before after }
     ensures { NotesHeld before after word last result }
 {
     if before.power.code == 0 && after.power.code == 0 && after.nodes <= after.parts {
-        return Spelt {
+        return Some(Spelt {
             word,
             from: before.nodes,
             count: after.nodes - before.nodes,
-        };
+        });
     }
     last
 }
@@ -69,10 +69,12 @@ fn hold_listed(
     ensures { Passes book.now certificate.now w.now base (walked book.now certificate.now (word - 1)).met from.held result }
 {
     let Passed { held: h, last } = from;
-    if is_repeated(w, base, h, word, last) {
+    if let Some(s) = from.last
+        && is_repeated(w, base, h, word, s)
+    {
         return Passed {
             held: Held {
-                nodes: h.nodes + last.count,
+                nodes: h.nodes + s.count,
                 ..h
             },
             last,
@@ -134,7 +136,7 @@ pub fn hold_instance(
             parts: n,
             ..Held::default()
         },
-        last: Spelt::default(),
+        last: None,
     };
     for header in Walk::new(book, s, at) {
         passed = hold_filled(book, certificate, w, base, passed, header, i, j, fills);
