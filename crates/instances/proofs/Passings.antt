@@ -2,7 +2,7 @@
 use Prim.Native.Nat.{ℕ, ◌+◌, ◌-◌, ◌≤◌}
 use mathlib.Core.Path.{◌≡◌, sym, ap, subst, ◌∙◌}
 use mathlib.Core.List.{List, []}
-use Rattle.std.specs.Prelude.{Option, Some}
+use Rattle.std.specs.Prelude.{Option, Some, None}
 use native.Mathlib.Omega.{arith}
 use Rattle.patterns.specs.Term.{Node}
 use Rattle.patterns.specs.First.{Exp, exponents}
@@ -31,7 +31,7 @@ onward {h = h} {k} ms t c = record {
 }
 
 module _ {h k : Held} {word : ℕ} {last : Option Spelt} where
-  pub held_new : h.power.code ≡ 0 → k.power.code ≡ 0 → k.nodes ≤ k.parts → NotesHeld h k word last (Some (record { word = word; from = h.nodes; count = k.nodes - h.nodes }))
+  pub held_new : h.power ≡ None → k.power ≡ None → k.nodes ≤ k.parts → NotesHeld h k word last (Some (record { word = word; from = h.nodes; count = k.nodes - h.nodes }))
   held_new z q l = record { told = go }
     where
       go : (book cert w : List ℕ) (base : ℕ) → h.parts ≤ NODES → Tracked w base h → Came w base (walked book cert (word - 1)).met h k

@@ -57,13 +57,13 @@ pub record Tracked (w : List ℕ) (base : ℕ) (h : Held) : Type 0 where
 -- the term of the word was spelled last, no power waits, and the stored nodes from the next on are those that it became
 pub record Repeated (w : List ℕ) (base : ℕ) (h : Held) (word : ℕ) (last : Spelt) : Type 0 where
   pub word_same : word ≡ last.word
-  pub none : h.power.code ≡ 0
+  pub none : h.power ≡ None
   pub few : h.nodes + last.count ≤ h.parts
   pub same : part w base h.nodes last.count ≡ part w base last.from last.count
 
 -- no node goes away
 pub record Onward (h k : Held) : Type 0 where
-  pub grew : h.power.code ≡ 0 → k.power.code ≡ 0 → h.nodes ≤ k.nodes
+  pub grew : h.power ≡ None → k.power ≡ None → h.nodes ≤ k.nodes
 
 -- `last`, or the term of a word that brought the side from h to k
 pub record NotesHeld (h k : Held) (word : ℕ) (last r : Option Spelt) : Type 0 where

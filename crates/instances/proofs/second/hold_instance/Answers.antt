@@ -12,7 +12,7 @@ loop-header-init c =
       coming_start _ _ _ _ c.new-header-items.ensures,
       omega (arith, zeros.0),
       remembers_none,
-      record { nodes = zeros.0; parts = refl; code = zeros.1.1.0; a = zeros.1.1.1.0; b = zeros.1.1.1.1 },
+      record { nodes = zeros.0; parts = refl; power = zeros.1.1 },
     )
 
 pub hold_filled-passed-requires : goal.hold_filled-passed-requires
