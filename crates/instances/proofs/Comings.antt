@@ -1,5 +1,5 @@
 -- A walk whose nodes come to a second side: those that came so far, with those that are still to come, are what the whole walk gives.
-use Rattle.std.specs.Prelude.{Some, None}
+use Rattle.std.specs.Prelude.{Option, Some, None}
 use Prim.Native.Nat.{ℕ, ◌+◌, ◌*◌, ◌≤◌, ◌<◌, ◌^◌}
 use mathlib.Core.Path.{◌≡◌, sym, ap, subst, ◌∙◌}
 use mathlib.Core.List.{List, [], ◌∷◌, flat_map}
@@ -15,9 +15,10 @@ use Rattle.table.specs.Places.{NODES}
 use Rattle.table.specs.Nodes.{load, side}
 use Rattle.table.specs.Sides.{node_told, Coded, Room}
 use Rattle.table.specs.Marks.{form_nodes}
-use Rattle.table.specs.Second.{Tracks, Came, CameOne, Amounts, Concludes}
+use Rattle.table.specs.Second.{weight, Tracks, Came, CameOne, Amounts, Concludes}
 use Rattle.table.specs.declared.Item.{Item}
 use Rattle.table.specs.declared.Held.{Held}
+use Rattle.table.specs.declared.Triple.{Triple}
 use Rattle.table.specs.declared.Outcome.{Outcome}
 use Rattle.table.specs.declared.Outcome.TheVariants.{Full}
 use Rattle.table.proofs.Loads.{load_append, load_push, load_pushes}
@@ -42,8 +43,8 @@ use Rattle.instances.proofs.Instances.{gives_itself, instance_form}
 
 -- it may come
 pub item_comes : {i j base : ℕ} {w : List ℕ} (h : Held) {header : Header} {m : Item} → ComesAs i j header m → Room base h.parts w → h.nodes ≤ 2 ^ 32
-    → h.power.a + h.power.b ≤ 2 ^ 62
-    → Room base h.parts w × ((h.nodes ≤ 2 ^ 32) × (h.power.a + h.power.b + load (node_told m ∷ []) < 2 ^ 64) × Coded m)
+    → weight h.power ≤ 2 ^ 62
+    → Room base h.parts w × ((h.nodes ≤ 2 ^ 32) × (weight h.power + load (node_told m ∷ []) < 2 ^ 64) × Coded m)
 item_comes h c room few l = (room, (few, omega (arith, c.light), c.coded))
 
 pub came_item : {w : List ℕ} {base i j : ℕ} {h r : Held} {header : Header} {m : Item} → ComesAs i j header m → CameOne w base (node_told m) h r
@@ -76,7 +77,7 @@ module _ (f : Node Exp → List (Node Exp)) {book s : List ℕ} {at : ℕ} {w : 
   pub coming_room : Room base h₀.parts w → Room base h.parts w
   coming_room room = record { within = room.within; few = omega (arith, room.few, g.holds.low) }
 
-  pub coming_light : (b : ℕ) → load (given f book s at) ≤ b → h.power.a + h.power.b ≤ h₀.power.a + h₀.power.b + b
+  pub coming_light : (b : ℕ) → load (given f book s at) ≤ b → weight h.power ≤ weight h₀.power + b
   coming_light b y =
       omega (arith, g.holds.light, ap load (given_rest f g), load_append (flat_map f g.met) (flat_map f (walk book s t.left t.stand).met))
 
@@ -96,8 +97,8 @@ came_term book s at t = came_as (each_itself (walked book s at).met) t
 -- the next node may come, and settles two at most
 pub term_comes : {book s : List ℕ} {at : ℕ} {w : List ℕ} {base : ℕ} {h₀ h : Held} {t : Walk} {header : Header} {m : Item}
     → Coming itself book s at w base h₀ h t → ComesAs 1 0 header m → Room base h₀.parts w → h.nodes + 2 * t.left ≤ NODES + 512
-    → h₀.power.a + h₀.power.b ≤ 2 ^ 60
-    → Room base h.parts w × ((h.nodes ≤ 2 ^ 32) × (h.power.a + h.power.b + load (node_told m ∷ []) < 2 ^ 64) × Coded m)
+    → weight h₀.power ≤ 2 ^ 60
+    → Room base h.parts w × ((h.nodes ≤ 2 ^ 32) × (weight h.power + load (node_told m ∷ []) < 2 ^ 64) × Coded m)
 term_comes {book} {s} {at} {h = h} g c room few l =
     item_comes h c (coming_room itself g room) (omega arith) (omega (arith, coming_light itself g (2 ^ 21) (light_given book s at)))
 
@@ -110,30 +111,32 @@ module _ (book cert w : List ℕ) (fills i j : ℕ) {base : ℕ} {h r : Held} (h
 
 -- ---- the whole instance
 
+weight_none : {power : Option Triple} → power ≡ None → weight power ≡ 0
+unfolding weight
+weight_none e = rw e
+
 -- no node has come
 pub record Begun (n : ℕ) (h : Held) : Type 0 where
   pub nodes : h.nodes ≡ 0
   pub parts : h.parts ≡ n
-  pub code : h.power.code ≡ 0
-  pub a : h.power.a ≡ 0
-  pub b : h.power.b ≡ 0
+  pub power : h.power ≡ None
 
 module _ (book s cert w : List ℕ) (at fills i j base n : ℕ) {h₀ h : Held} {t : Walk} (none : Begun n h₀)
     (g : Coming (filled book cert w fills i j) book s at w base h₀ h t) where
   -- they are those of a stack
   held : Tracks w base n h₀ []
-  held = held_none w base n none.nodes none.parts none.code
+  held = held_none w base n none.nodes none.parts none.power
 
   tracked : Tracked w base h
   tracked = record { n = n; ns = _; tracks = g.holds.told n [] held }
 
-  pub instance_comes : {last : Spelt} → Room base n w → fills + 64 ≤ length w → h.nodes ≤ NODES → i < 65536 → j < 65536 → Remembers book cert w base NODES last
-      → Room base h.parts w × ((h.nodes ≤ NODES) × (h.power.a + h.power.b ≤ 2 ^ 60) × (fills + 64 ≤ length w) × Remembers book cert w base NODES last × Tracked w base h)
+  pub instance_comes : {last : Option Spelt} → Room base n w → fills + 64 ≤ length w → h.nodes ≤ NODES → i < 65536 → j < 65536 → Remembers book cert w base NODES last
+      → Room base h.parts w × ((h.nodes ≤ NODES) × (weight h.power ≤ 2 ^ 60) × (fills + 64 ≤ length w) × Remembers book cert w base NODES last × Tracked w base h)
   instance_comes room low few small-i small-j m = (
     coming_room (filled book cert w fills i j) g (record { within = room.within; few = omega (arith, room.few, none.parts) }),
     (
       few,
-      omega (arith, none.a, none.b, coming_light (filled book cert w fills i j) g (2 ^ 38) (filled_light book cert w fills i j small-i small-j s at)),
+      omega (arith, weight_none none.power, coming_light (filled book cert w fills i j) g (2 ^ 38) (filled_light book cert w fills i j small-i small-j s at)),
       low,
       m,
       tracked,

@@ -132,7 +132,7 @@ module _ (book cert w : List ℕ) (fills i j : ℕ) where
     built_over {n} {t} {u} g turn = finished n u.stand.at _ (going_over g turn) (pushing_over _ book s at base 0 w v n t g turn)
 
     -- the next node fits
-    pub building_fits : (n : ℕ) (t : Walk) {last : Spelt} → Pushing (filled book cert w fills i j) book s at base 0 w v n t
+    pub building_fits : (n : ℕ) (t : Walk) {last : Option Spelt} → Pushing (filled book cert w fills i j) book s at base 0 w v n t
         → (base + SIDE ≤ length w) × (fills + 64 ≤ base) → i < 65536 → j < 65536 → Remembers book cert v base n last
         → Room base n v × ((load (stack v base n) ≤ 2 ^ 60) × (fills + 64 ≤ length v) × Remembers book cert v base n last)
     building_fits n t g before small-i small-j m =

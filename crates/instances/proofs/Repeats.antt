@@ -3,6 +3,7 @@ use Prim.Native.Nat.{ℕ, ◌+◌, ◌-◌, ◌≤◌}
 use mathlib.Core.Path.{◌≡◌, sym, ap, subst, ◌∙◌}
 use mathlib.Core.Bool.{Bool, true}
 use mathlib.Core.List.{List, [], ◌++◌}
+use Rattle.std.proofs.lemmas.Option.{none-some}
 use native.Mathlib.Omega.{arith}
 use Rattle.patterns.specs.Term.{Node}
 use Rattle.patterns.specs.First.{Exp, exponents}
@@ -17,58 +18,64 @@ use Rattle.table.proofs.Sides.{took_room}
 use Rattle.table.proofs.Repeats.{part_same, part_pushed}
 use Rattle.table.proofs.Copies.{copied_pushed, pushed_more, stays_below}
 use Rattle.instances.specs.Walks.{walked}
-use Rattle.instances.specs.Repeats.{Remembers, Notes, pushed, Recalls, Grows}
+use Rattle.instances.specs.Repeats.{Spelled, Remembers, Notes, pushed, Recalls, Grows}
 use Rattle.instances.specs.declared.Spelt.{Spelt}
 use Rattle.instances.specs.declared.Grown.{Grown}
 use Rattle.instances.proofs.Pushings.{took_as}
 
 module _ {book cert w : List ℕ} {base n : ℕ} where
-  pub remembers_none : {last : Spelt} → last.word ≡ 0 → last.from ≡ 0 → last.count ≡ 0 → Remembers book cert w base n last
-  remembers_none e f g = record { within = omega arith; nodes = λ z. absurd (z e); closed = λ z. absurd (z e) }
+  pub remembers_none : Remembers book cert w base n None
+  remembers_none = record { told = λ s e. absurd (none-some s e) }
+
+  pub remembers_some : {s : Spelt} → Spelled book cert w base n s → Remembers book cert w base n (Some s)
+  remembers_some {s} m = record { told = λ t e. let q : s ≡ t = cc in subst (Spelled book cert w base n) q m }
 
   -- over any push
-  pub remembers_kept : {v : List ℕ} {k : ℕ} {last : Spelt} (ms : List (Node Exp)) → Pushes base n ms w v (Some k) → Remembers book cert w base n last
-      → Remembers book cert v base k last
-  remembers_kept {v} {k} {last} ms g r =
-      let m = last.from + last.count in
-      let same : ¬ (last.word ≡ 0) → stack v base m ≡ stack w base m = λ z. stays_below n ms g m r.within (r.closed z) in
+  spelled_kept : {v : List ℕ} {k : ℕ} {s : Spelt} (ms : List (Node Exp)) → Pushes base n ms w v (Some k) → Spelled book cert w base n s → Spelled book cert v base k s
+  spelled_kept {v} {k} {s} ms g r =
+      let m = s.from + s.count in
+      let same : stack v base m ≡ stack w base m = stays_below n ms g m r.within r.closed in
       record {
         within = omega (arith, r.within, pushed_more n ms g);
-        nodes = λ z. part_same v w base m last.from last.count (same z) (omega arith) ∙ r.nodes z;
-        closed = λ z. subst Closed (sym (same z)) (r.closed z);
+        nodes = part_same v w base m s.from s.count same (omega arith) ∙ r.nodes;
+        closed = subst Closed (sym same) r.closed;
       }
 
-  -- of the term that is pushed
-  remembers_new : {v : List ℕ} {k : ℕ} (word : ℕ) → Pushes base n (walked book cert (word - 1)).met w v (Some k) → Closed (stack w base n) → Closed (stack v base k)
-      → Remembers book cert v base k (record { word = word; from = n; count = k - n })
-  unfolding Stacked
-  remembers_new {v} {k} word g c d =
-      let up = pushed_more n (walked book cert (word - 1)).met g in
-      let all : k ≡ n + (k - n) = omega (arith, up) in
-      record {
-        within = omega (arith, up);
-        nodes = λ z. part_pushed v base n k (stack w base n) (walked book cert (word - 1)).met (sym (stack_length w base n)) c g.holds.1;
-        closed = λ z. subst (λ i. Closed (stack v base i)) all d;
-      }
+  pub remembers_kept : {v : List ℕ} {k : ℕ} {last : Option Spelt} (ms : List (Node Exp)) → Pushes base n ms w v (Some k) → Remembers book cert w base n last
+      → Remembers book cert v base k last
+  remembers_kept ms g r = record { told = λ s e. spelled_kept ms g (r.told s e) }
+
+-- of the term that is pushed
+remembers_new : {book cert w v : List ℕ} {base n k : ℕ} (word : ℕ) → Pushes base n (walked book cert (word - 1)).met w v (Some k) → Closed (stack w base n)
+    → Closed (stack v base k) → Remembers book cert v base k (Some (record { word = word; from = n; count = k - n }))
+unfolding Stacked
+remembers_new {book} {cert} {w} {v} {base} {n} {k} word g c d =
+    let up = pushed_more n (walked book cert (word - 1)).met g in
+    let all : k ≡ n + (k - n) = omega (arith, up) in
+    remembers_some (record {
+      within = omega (arith, up);
+      nodes = part_pushed v base n k (stack w base n) (walked book cert (word - 1)).met (sym (stack_length w base n)) c g.holds.1;
+      closed = subst (λ i. Closed (stack v base i)) all d;
+    })
 
 -- ---- which one is remembered
 
-module _ {base n k word : ℕ} {closed : Bool} {last : Spelt} {v : List ℕ} where
+module _ {base n k word : ℕ} {closed : Bool} {last : Option Spelt} {v : List ℕ} where
   pub notes_last : Notes base n k word closed last v last
   notes_last = record { told = λ book cert w g a r. remembers_kept (walked book cert (word - 1)).met g r }
 
   pub notes_new : {b : Bool} → closed ≡ true → Assures (Closed (stack v base k)) b → b ≡ true
-      → Notes base n k word closed last v (record { word = word; from = n; count = k - n })
+      → Notes base n k word closed last v (Some (record { word = word; from = n; count = k - n }))
   notes_new {b} e x f = record { told = λ book cert w g a r. remembers_new word g (a.so e) (x.so f) }
 
 -- ---- a term that comes again
 
-pub copied_again : {book cert w v : List ℕ} {base : ℕ} {r : Option ℕ} {word : ℕ} {last : Spelt} (n : ℕ) → 1 ≤ word → word ≡ last.word → Closed (stack w base n)
-    → Remembers book cert w base n last → Became base (part w base last.from last.count ++ stack w base n) w v r
+pub copied_again : {book cert w v : List ℕ} {base : ℕ} {r : Option ℕ} {word : ℕ} {s : Spelt} (n : ℕ) → word ≡ s.word → Closed (stack w base n)
+    → Spelled book cert w base n s → Became base (part w base s.from s.count ++ stack w base n) w v r
     → Pushes base n (walked book cert (word - 1)).met w v r
-copied_again {book} {cert} {word = word} {last} n some e c m g =
-    copied_pushed n last.from last.count (walked book cert (word - 1)).met c
-    (m.nodes (λ z. omega arith) ∙ ap (λ k. pushes exponents [] (walked book cert (k - 1)).met) (sym e)) g
+copied_again {book} {cert} {word = word} {s} n e c m g =
+    copied_pushed n s.from s.count (walked book cert (word - 1)).met c
+    (m.nodes ∙ ap (λ k. pushes exponents [] (walked book cert (k - 1)).met) (sym e)) g
 
 -- the side is ready to be looked at
 pub noting_fits : {base k : ℕ} {w v : List ℕ} {r : Option ℕ} (n : ℕ) (ms : List (Node Exp)) → Room base n w → Pushes base n ms w v r → r ≡ Some k → Room base k v × (n ≤ k)
@@ -87,11 +94,11 @@ module _ {book cert w v : List ℕ} {base : ℕ} (n : ℕ) (ms : List (Node Exp)
     unfolding pushed Recalls
     grows_full e answer = rw answer (record { took = subst (Pushes base n ms w v) e g; recalls = tt })
 
-    pub grows_kept : {k : ℕ} {last : Spelt} → r ≡ Some k → Remembers book cert w base n last → Grows book cert base n ms w v (Some (record { nodes = k; last = last }))
+    pub grows_kept : {k : ℕ} {last : Option Spelt} → r ≡ Some k → Remembers book cert w base n last → Grows book cert base n ms w v (Some (record { nodes = k; last = last }))
     unfolding pushed Recalls
     grows_kept e m = let t = subst (Pushes base n ms w v) e g in record { took = t; recalls = remembers_kept ms t m }
 
-    pub grows_noted : {k word : ℕ} {closed : Bool} {last next : Spelt} → ms ≡ (walked book cert (word - 1)).met → r ≡ Some k
+    pub grows_noted : {k word : ℕ} {closed : Bool} {last next : Option Spelt} → ms ≡ (walked book cert (word - 1)).met → r ≡ Some k
         → Assures (Closed (stack w base n)) closed → Remembers book cert w base n last → Notes base n k word closed last v next
         → Grows book cert base n ms w v (Some (record { nodes = k; last = next }))
     unfolding pushed Recalls

@@ -15,16 +15,20 @@ use Rattle.instances.specs.declared.Spelt.{Spelt}
 use Rattle.instances.specs.declared.Passed.{Passed}
 use Rattle.instances.specs.declared.Grown.{Grown}
 
--- among the first n nodes of the side are those that it became, and nothing merges with the last of them
-pub record Remembers (book cert w : List ℕ) (base n : ℕ) (last : Spelt) : Type 0 where
-  pub within : last.from + last.count ≤ n
-  pub nodes : ¬ (last.word ≡ 0) → part w base last.from last.count ≡ pushes exponents [] (walked book cert (last.word - 1)).met
-  pub closed : ¬ (last.word ≡ 0) → Closed (stack w base (last.from + last.count))
+-- among the first n nodes of the side are those that a term became, and nothing merges with the last of them
+pub record Spelled (book cert w : List ℕ) (base n : ℕ) (s : Spelt) : Type 0 where
+  pub within : s.from + s.count ≤ n
+  pub nodes : part w base s.from s.count ≡ pushes exponents [] (walked book cert (s.word - 1)).met
+  pub closed : Closed (stack w base (s.from + s.count))
+
+-- so it is with the term that is remembered, if one is
+pub record Remembers (book cert w : List ℕ) (base n : ℕ) (last : Option Spelt) : Type 0 where
+  pub told : (s : Spelt) → last ≡ Some s → Spelled book cert w base n s
 
 -- ---- a side that is built
 
 -- `last`, or the term of a word that took the side from n nodes to k
-pub record Notes (base n k word : ℕ) (closed : Bool) (last : Spelt) (after : List ℕ) (r : Spelt) : Type 0 where
+pub record Notes (base n k word : ℕ) (closed : Bool) (last : Option Spelt) (after : List ℕ) (r : Option Spelt) : Type 0 where
   pub told : (book cert w : List ℕ) → Pushes base n (walked book cert (word - 1)).met w after (Some k) → Assures (Closed (stack w base n)) closed
       → Remembers book cert w base n last → Remembers book cert after base k r
 
@@ -53,16 +57,16 @@ pub record Tracked (w : List ℕ) (base : ℕ) (h : Held) : Type 0 where
 -- the term of the word was spelled last, no power waits, and the stored nodes from the next on are those that it became
 pub record Repeated (w : List ℕ) (base : ℕ) (h : Held) (word : ℕ) (last : Spelt) : Type 0 where
   pub word_same : word ≡ last.word
-  pub none : h.power.code ≡ 0
+  pub none : h.power ≡ None
   pub few : h.nodes + last.count ≤ h.parts
   pub same : part w base h.nodes last.count ≡ part w base last.from last.count
 
 -- no node goes away
 pub record Onward (h k : Held) : Type 0 where
-  pub grew : h.power.code ≡ 0 → k.power.code ≡ 0 → h.nodes ≤ k.nodes
+  pub grew : h.power ≡ None → k.power ≡ None → h.nodes ≤ k.nodes
 
 -- `last`, or the term of a word that brought the side from h to k
-pub record NotesHeld (h k : Held) (word : ℕ) (last r : Spelt) : Type 0 where
+pub record NotesHeld (h k : Held) (word : ℕ) (last r : Option Spelt) : Type 0 where
   pub told : (book cert w : List ℕ) (base : ℕ) → h.parts ≤ NODES → Tracked w base h → Came w base (walked book cert (word - 1)).met h k
       → Remembers book cert w base NODES last → Remembers book cert w base NODES r
 

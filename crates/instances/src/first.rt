@@ -46,18 +46,18 @@ fn remembered(
     k: usize,
     word: u64,
     closed: bool,
-    last: Spelt,
-) -> Spelt
+    last: Option<Spelt>,
+) -> Option<Spelt>
     requires room { Room base k w.now }
     requires n_le_k { n ≤ k }
     ensures { Notes base n k word closed last w.now result }
 {
     if closed && table::is_closed(w, base, k) {
-        return Spelt {
+        return Some(Spelt {
             word,
             from: n,
             count: k - n,
-        };
+        });
     }
     last
 }
@@ -77,9 +77,11 @@ fn push_listed(
 {
     let Grown { nodes: n, last } = from;
     let closed = table::is_closed(w, base, n);
-    if is_repeated(closed, word, last.word) {
-        let k = table::copy(w, base, n, last.from, last.count)?;
-        return Some(Grown { nodes: k, ..from });
+    if let Some(s) = from.last
+        && is_repeated(closed, word, s.word)
+    {
+        let k = table::copy(w, base, n, s.from, s.count)?;
+        return Some(Grown { nodes: k, last });
     }
     let k = spell(book, certificate, w, base, n, (word - 1) as usize)?;
     Some(Grown {

@@ -65,26 +65,26 @@ pub struct Side {
     pub end: usize,
 }
 
-// The term that was spelled last: its word, 0 where none is remembered; the number of the first node that it became, and how many these are.
-#[derive(Clone, Copy, Default)]
+// A term that was spelled: its word, the number of the first node that it became, and how many these are.
+#[derive(Clone, Copy)]
 pub struct Spelt {
     pub word: u64,
     pub from: usize,
     pub count: usize,
 }
 
-// How many nodes a side holds after a node of an instance, with the term that was spelled last.
+// How many nodes a side holds after a node of an instance, with the term that was spelled last, if one is remembered.
 #[derive(Clone, Copy)]
 pub struct Grown {
     pub nodes: usize,
-    pub last: Spelt,
+    pub last: Option<Spelt>,
 }
 
-// How far a second side has come, with the term that was spelled last.
+// How far a second side has come, with the term that was spelled last, if one is remembered.
 #[derive(Clone, Copy)]
 pub struct Passed {
     pub held: Held,
-    pub last: Spelt,
+    pub last: Option<Spelt>,
 }
 
 // The field of w bits at a bit.
@@ -222,7 +222,7 @@ pub fn build(
 {
     let mut grown = Grown {
         nodes: 0,
-        last: Spelt::default(),
+        last: None,
     };
     let mut walk = Walk::new(book, s, at);
     while let Some(header) = walk.next() {

@@ -7,7 +7,7 @@ ghost use mathlib.Core.List.{flat_map};
 ghost use Rattle.table.specs.Places.{NODES};
 ghost use Rattle.table.specs.Sides.{Room};
 ghost use Rattle.table.specs.Answer.{Assures};
-ghost use Rattle.table.specs.Second.{Came};
+ghost use Rattle.table.specs.Second.{weight, Came};
 ghost use Rattle.instances.specs.Instances.{Against};
 ghost use Rattle.instances.specs.Walks.{single, walked};
 ghost use Rattle.instances.specs.Filled.{filled};
@@ -20,7 +20,7 @@ use table::{Held, NODES, Outcome};
 // The nodes of the term at a bit, just as they stand.
 fn hold_term(book: &[u8], s: &[u8], w: &[u64], base: usize, from: Held, at: usize) -> Held
     requires room { Room base from.parts w.now }
-    requires nodes_bound { (from.nodes ≤ NODES) × (from.power.a + from.power.b ≤ 2 ^ 60) }
+    requires nodes_bound { (from.nodes ≤ NODES) × (weight from.power ≤ 2 ^ 60) }
     ensures { Came w.now base (walked book.now s.now at).met from result }
 {
     let mut h = from;
@@ -30,29 +30,29 @@ fn hold_term(book: &[u8], s: &[u8], w: &[u64], base: usize, from: Held, at: usiz
     h
 }
 
-// Whether the term that was spelled last comes again, where no power waits, and the stored nodes from the next on are those that it became.
+// Whether a term that was spelled comes again, where no power waits, and the stored nodes from the next on are those that it became.
 fn is_repeated(w: &[u64], base: usize, h: Held, word: u64, last: Spelt) -> bool
     requires room { Room base h.parts w.now }
     requires nodes_bound { (h.nodes ≤ NODES) × (last.from + last.count ≤ NODES) }
     ensures { Assures (Repeated w.now base h word last) result }
 {
-    if word != last.word || h.power.code != 0 || h.nodes + last.count > h.parts {
+    if word != last.word || h.power.is_some() || h.nodes + last.count > h.parts {
         return false;
     }
     table::second::again(w, base, h.nodes, last.from, last.count)
 }
 
 // The term of a word that brought a second side from one state to another, if no power waits on either end and no node differs; else the one before it.
-fn remembered(before: Held, after: Held, word: u64, last: Spelt) -> Spelt
+fn remembered(before: Held, after: Held, word: u64, last: Option<Spelt>) -> Option<Spelt>
     requires { Onward before after }
     ensures { NotesHeld before after word last result }
 {
-    if before.power.code == 0 && after.power.code == 0 && after.nodes <= after.parts {
-        return Spelt {
+    if before.power.is_none() && after.power.is_none() && after.nodes <= after.parts {
+        return Some(Spelt {
             word,
             from: before.nodes,
             count: after.nodes - before.nodes,
-        };
+        });
     }
     last
 }
@@ -67,14 +67,16 @@ fn hold_listed(
     word: u64,
 ) -> Passed
     requires room { Room base from.held.parts w.now }
-    requires nodes_bound { (from.held.nodes ≤ NODES) × (from.held.power.a + from.held.power.b ≤ 2 ^ 60) × (1 ≤ word) × Remembers book.now certificate.now w.now base NODES from.last × Tracked w.now base from.held }
+    requires nodes_bound { (from.held.nodes ≤ NODES) × (weight from.held.power ≤ 2 ^ 60) × (1 ≤ word) × Remembers book.now certificate.now w.now base NODES from.last × Tracked w.now base from.held }
     ensures { Passes book.now certificate.now w.now base (walked book.now certificate.now (word - 1)).met from.held result }
 {
     let Passed { held: h, last } = from;
-    if is_repeated(w, base, h, word, last) {
+    if let Some(s) = from.last
+        && is_repeated(w, base, h, word, s)
+    {
         return Passed {
             held: Held {
-                nodes: h.nodes + last.count,
+                nodes: h.nodes + s.count,
                 ..h
             },
             last,
@@ -100,7 +102,7 @@ fn hold_filled(
     fills: usize,
 ) -> Passed
     requires room { Room base from.held.parts w.now }
-    requires nodes_bound { (from.held.nodes ≤ NODES) × (from.held.power.a + from.held.power.b ≤ 2 ^ 60) × (fills + 64 ≤ length w.now) × Remembers book.now certificate.now w.now base NODES from.last × Tracked w.now base from.held }
+    requires nodes_bound { (from.held.nodes ≤ NODES) × (weight from.held.power ≤ 2 ^ 60) × (fills + 64 ≤ length w.now) × Remembers book.now certificate.now w.now base NODES from.last × Tracked w.now base from.held }
     ensures { Passes book.now certificate.now w.now base (flat_map (filled book.now certificate.now w.now fills i j) (single header)) from.held result }
 {
     let word = word_of(w, fills, header);
@@ -136,7 +138,7 @@ pub fn hold_instance(
             parts: n,
             ..Held::default()
         },
-        last: Spelt::default(),
+        last: None,
     };
     for header in Walk::new(book, s, at) {
         passed = hold_filled(book, certificate, w, base, passed, header, i, j, fills);

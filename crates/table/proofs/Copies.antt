@@ -2,6 +2,7 @@
 use Prim.Native.Nat.{ℕ, zero, suc, ◌+◌, ◌*◌, ◌-◌, ◌≤◌, ◌<◌}
 use mathlib.Core.Path.{◌≡◌, sym, ap, ap₂, subst, ◌∙◌}
 use mathlib.Core.List.{List, [], ◌∷◌, ◌++◌}
+use Rattle.std.proofs.lemmas.Option.{none-some}
 use native.Mathlib.Omega.{arith}
 use lib.ListN.{length, get_or, length-append}
 use Rattle.std.specs.List.{CopiedTo, SameBelow, SameFrom}
@@ -98,7 +99,7 @@ parts_more {w} {base} (m ∷ xs) ns x l e =
 
 module _ {w : List ℕ} {base : ℕ} (h : Held) where
   -- the stored nodes from the next on are those that the coming ones give
-  pub came_again : (count : ℕ) (ms : List (Node Exp)) → h.power.code ≡ 0 → h.nodes + count ≤ h.parts → Closed (pushes exponents [] ms)
+  pub came_again : (count : ℕ) (ms : List (Node Exp)) → h.power ≡ None → h.nodes + count ≤ h.parts → Closed (pushes exponents [] ms)
       → part w base h.nodes count ≡ pushes exponents [] ms
       → Came w base ms h (record { nodes = h.nodes + count; parts = h.parts; power = h.power })
   came_again count ms z l d e = record { told = go; low = omega arith; light = omega arith }
@@ -115,13 +116,13 @@ module _ {w : List ℕ} {base : ℕ} (h : Held) where
             nodes = omega (arith, c.nodes, many, length-append (pushes exponents [] ms) ns);
             parts = parts_more (pushes exponents [] ms) ns c.parts (omega (arith, c.nodes, many)) (ap₂ (part w base) (sym c.nodes) many ∙ e);
           }))
-      go n ns (waits s q o c) = absurd (omega arith)
+      go n ns (waits s q d o c) = absurd (none-some _ (sym z ∙ q))
 
   -- where no power waits and none of the nodes differs, they are stored
-  pub tracks_stored : {n : ℕ} {ns : List (Node Exp)} → h.power.code ≡ 0 → h.nodes ≤ h.parts → Tracks w base n h ns → stack w base h.nodes ≡ ns
+  pub tracks_stored : {n : ℕ} {ns : List (Node Exp)} → h.power ≡ None → h.nodes ≤ h.parts → Tracks w base n h ns → stack w base h.nodes ≡ ns
   tracks_stored z l (rests q f c) = ap (stack w base) c.nodes ∙ parts_none c.parts (omega (arith, c.nodes))
-  tracks_stored z l (waits s q o c) = absurd (omega arith)
+  tracks_stored z l (waits s q d o c) = absurd (none-some _ (sym z ∙ q))
 
-  pub tracks_closed : {n : ℕ} {ns : List (Node Exp)} → h.power.code ≡ 0 → Tracks w base n h ns → Closed ns × (h.nodes ≡ length ns)
+  pub tracks_closed : {n : ℕ} {ns : List (Node Exp)} → h.power ≡ None → Tracks w base n h ns → Closed ns × (h.nodes ≡ length ns)
   tracks_closed z (rests q f c) = (f, c.nodes)
-  tracks_closed z (waits s q o c) = absurd (omega arith)
+  tracks_closed z (waits s q d o c) = absurd (none-some _ (sym z ∙ q))

@@ -1,6 +1,8 @@
 -- A second side that is held against the stored first: what one node more does to its state, and what it amounts to.
 use Prim.Native.Nat.{ℕ, ◌+◌, ◌*◌, ◌%◌, ◌≤◌, ◌<◌}
 use mathlib.Core.Path.{◌≡◌, refl, sym, ap, subst, ◌∙◌}
+use Rattle.std.specs.Prelude.{Option, Some, None}
+use Rattle.std.proofs.lemmas.Option.{none-some}
 use mathlib.Core.List.{List, [], ◌∷◌, ◌++◌, reverse, reverse-reverse}
 use native.Mathlib.Omega.{arith}
 use lib.ListN.{length, length-reverse}
@@ -11,7 +13,7 @@ use Rattle.patterns.proofs.Push.{pushes_append}
 use Rattle.table.specs.Places.{NODES}
 use Rattle.table.specs.Nodes.{node_of, stack, side, load}
 use Rattle.table.specs.Sides.{node_told, Coded}
-use Rattle.table.specs.Second.{none, PartsNext, PowerPartsNext, Parts, Tallied, Tracks, rests, waits, AtRest, Came, CameOne, Amounts, Concludes}
+use Rattle.table.specs.Second.{none, PartsNext, PowerPartsNext, Parts, weight, Tallied, Tracks, rests, waits, AtRest, Came, CameOne, Amounts, Concludes}
 use Rattle.table.specs.declared.Held.{Held}
 use Rattle.table.specs.declared.Triple.{Triple}
 use Rattle.table.specs.declared.Item.{Item}
@@ -25,24 +27,38 @@ use Rattle.table.proofs.Parting.{parts_low, parts_none, parts_some}
 
 -- ---- none has come
 
-pub held_none : (w : List ℕ) (base n : ℕ) {h : Held} → h.nodes ≡ 0 → h.parts ≡ n → h.power.code ≡ 0 → Tracks w base n h []
+pub held_none : (w : List ℕ) (base n : ℕ) {h : Held} → h.nodes ≡ 0 → h.parts ≡ n → h.power ≡ None → Tracks w base n h []
 unfolding put
 held_none w base n few all rest = rests rest (λ s e. refl) (record { nodes = few; parts = none all })
 
 -- ---- a power is settled
 
 module _ {w : List ℕ} {base : ℕ} {h : Held} where
-  -- where v are the words for no power
-  pub rest_power : {p : ℕ} {v : Triple} → ¬ (h.power.code ≡ 0) → PowerPartsNext w base h.nodes h.parts h.power.code h.power.a h.power.b p
-      → v.code ≡ 0 → v.a ≡ 0 → v.b ≡ 0 → AtRest w base h (record { nodes = h.nodes + 1; parts = p; power = v })
-  rest_power {p} {v} z k o x y = record { told = go; none = o; low = k.low; few = omega arith; light = omega arith }
+  pub rest_power : {p : ℕ} {v : Triple} → h.power ≡ Some v → PowerPartsNext w base h.nodes h.parts v.code v.a v.b p
+      → AtRest w base h (record { nodes = h.nodes + 1; parts = p; power = None })
+  unfolding weight
+  rest_power {p} {v} z k = record { told = go; none = refl; low = k.low; few = omega arith; light = omega arith }
     where
-      go : (n : ℕ) (ns : List (Node Exp)) → Tracks w base n h ns → Tallied w base n ns (record { nodes = h.nodes + 1; parts = p; power = v })
-      go n ns (rests e f c) = absurd (z e)
-      go n ns (waits {ms = ms} s e q c) = record {
-        nodes = omega (arith, c.nodes, ap length q);
-        parts = subst (λ l. Parts w base n l p) (sym q) ((k.told s e).told n ms c.nodes c.parts);
-      }
+      go : (n : ℕ) (ns : List (Node Exp)) → Tracks w base n h ns → Tallied w base n ns (record { nodes = h.nodes + 1; parts = p; power = None })
+      go n ns (rests e f c) = absurd (none-some v (sym e ∙ z))
+      go n ns (waits {ms = ms} {power = u} s e d q c) =
+          let like : u ≡ v = cc in
+          let top : ns ≡ npow s (v.a, v.b) ∷ ms = subst (λ t. ns ≡ npow s (t.a, t.b) ∷ ms) like q in
+          record {
+            nodes = omega (arith, c.nodes, ap length top);
+            parts = subst (λ l. Parts w base n l p) (sym top) ((k.told s (subst (λ t. t.code ≡ 3 * s + 2) like d)).told n ms c.nodes c.parts);
+          }
+
+  pub rest_none : h.power ≡ None → AtRest w base h h
+  rest_none z = record { told = go; none = z; low = omega arith; few = omega arith; light = omega arith }
+    where
+      go : (n : ℕ) (ns : List (Node Exp)) → Tracks w base n h ns → Tallied w base n ns h
+      go n ns (rests e f c) = c
+      go n ns (waits s e d q c) = absurd (none-some _ (sym z ∙ e))
+
+pub weight_some : {o : Option Triple} {v : Triple} → o ≡ Some v → weight o ≡ v.a + v.b
+unfolding weight
+weight_some e = rw e
 
 -- ---- one node more
 
@@ -75,37 +91,39 @@ module _ {w : List ℕ} {base : ℕ} {h : Held} where
     }
 
     module _ (some : ¬ (a + b ≡ 0)) where
-      added : (n : ℕ) (ns : List (Node Exp)) → h.power.code ≡ 3 * s + 2 → Tracks w base n h ns
-          → Tracks w base n (record { nodes = h.nodes; parts = h.parts; power = record { code = 3 * s + 2; a = h.power.a + a; b = h.power.b + b } }) (push exponents ns (npow s (a, b)))
-      added n ns q (rests e f c) = absurd (omega arith)
-      added n ns q (waits {ms = ms} r e o c) =
-          let like : 3 * r + 2 ≡ 3 * s + 2 = omega arith in
-          waits s refl
-          (push_some ns s a b some ∙ ap (put exponents s (a, b)) o ∙ put_like s a b ms (is_pow r refl) like)
+      added : (n : ℕ) (ns : List (Node Exp)) {v : Triple} → h.power ≡ Some v → v.code ≡ 3 * s + 2 → Tracks w base n h ns
+          → Tracks w base n (record { nodes = h.nodes; parts = h.parts; power = Some (record { code = 3 * s + 2; a = v.a + a; b = v.b + b }) }) (push exponents ns (npow s (a, b)))
+      added n ns {v} z q (rests e f c) = absurd (none-some v (sym e ∙ z))
+      added n ns {v} z q (waits {ms = ms} {power = u} r e d o c) =
+          let same : u ≡ v = cc in
+          let like : 3 * r + 2 ≡ 3 * s + 2 = sym (subst (λ t. t.code ≡ 3 * r + 2) same d) ∙ q in
+          let top : ns ≡ npow r (v.a, v.b) ∷ ms = subst (λ t. ns ≡ npow r (t.a, t.b) ∷ ms) same o in
+          waits s refl refl
+          (push_some ns s a b some ∙ ap (put exponents s (a, b)) top ∙ put_like s a b ms (is_pow r refl) like)
           (record { nodes = c.nodes; parts = c.parts })
 
-      pub comes_added : h.power.code ≡ 3 * s + 2
-          → CameOne w base (npow s (a, b)) h (record { nodes = h.nodes; parts = h.parts; power = record { code = 3 * s + 2; a = h.power.a + a; b = h.power.b + b } })
-      unfolding pushes load
-      comes_added q = record {
-        came = record { told = λ n ns x. added n ns q x; low = omega arith; light = omega arith };
+      pub comes_added : {v : Triple} → h.power ≡ Some v → v.code ≡ 3 * s + 2
+          → CameOne w base (npow s (a, b)) h (record { nodes = h.nodes; parts = h.parts; power = Some (record { code = 3 * s + 2; a = v.a + a; b = v.b + b }) })
+      unfolding pushes load weight
+      comes_added z q = record {
+        came = record { told = λ n ns x. added n ns z q x; low = omega arith; light = omega (arith, weight_some z) };
         few = omega arith;
       }
 
-      apart : (n : ℕ) (ns : List (Node Exp)) → ¬ (h.power.code ≡ 3 * s + 2) → Tracks w base n h ns → push exponents ns (npow s (a, b)) ≡ npow s (a, b) ∷ ns
+      apart : (n : ℕ) (ns : List (Node Exp)) → ((v : Triple) → h.power ≡ Some v → ¬ (v.code ≡ 3 * s + 2)) → Tracks w base n h ns → push exponents ns (npow s (a, b)) ≡ npow s (a, b) ∷ ns
       apart n ns d (rests e f c) = push_some ns s a b some ∙ f s (a, b)
-      apart n ns d (waits {ms = ms} r e o c) =
+      apart n ns d (waits {ms = ms} {power = u} r z e o c) =
           push_some ns s a b some
           ∙ ap (put exponents s (a, b)) o
-          ∙ put_other s (a, b) ms (is_pow r refl) (λ z. d (e ∙ z))
+          ∙ put_other s (a, b) ms (is_pow r refl) (λ q. d u z (e ∙ q))
           ∙ ap (λ l. npow s (a, b) ∷ l) (sym o)
 
-      pub comes_kept : {k : Held} → ¬ (h.power.code ≡ 3 * s + 2) → AtRest w base h k
-          → CameOne w base (npow s (a, b)) h (record { nodes = k.nodes; parts = k.parts; power = record { code = 3 * s + 2; a = a; b = b } })
-      unfolding pushes load
+      pub comes_kept : {k : Held} → ((v : Triple) → h.power ≡ Some v → ¬ (v.code ≡ 3 * s + 2)) → AtRest w base h k
+          → CameOne w base (npow s (a, b)) h (record { nodes = k.nodes; parts = k.parts; power = Some (record { code = 3 * s + 2; a = a; b = b }) })
+      unfolding pushes load weight
       comes_kept {k} d z = record {
         came = record {
-          told = λ n ns x. waits s refl (apart n ns d x) (record { nodes = (z.told n ns x).nodes; parts = (z.told n ns x).parts });
+          told = λ n ns x. waits s refl refl (apart n ns d x) (record { nodes = (z.told n ns x).nodes; parts = (z.told n ns x).parts });
           low = z.low;
           light = omega arith;
         };
@@ -149,7 +167,7 @@ came_as {w} {base} {ms} {ks} {h} {r} e x = subst (λ l. Came w base l h r) e x
 
 pub tracks_many : {w : List ℕ} {base n : ℕ} {h : Held} {ns : List (Node Exp)} → Tracks w base n h ns → h.nodes ≤ length ns
 tracks_many (rests e f c) = omega (arith, c.nodes)
-tracks_many (waits s e q c) = omega (arith, c.nodes, ap length q)
+tracks_many (waits s e d q c) = omega (arith, c.nodes, ap length q)
 
 side_of : (w : List ℕ) (base n : ℕ) {ns : List (Node Exp)} → side w base n ≡ reverse ns → stack w base n ≡ ns
 unfolding side

@@ -1,5 +1,5 @@
 -- A second side that is held against the stored first: what its state tells of the nodes that have come, and what it amounts to in the end.
-use Rattle.std.specs.Prelude.{ℕ, ◌+◌, ◌*◌, ◌≤◌, ◌<◌, ◌≡◌, ◌≢◌, Bool, List, [], ◌∷◌, reverse, length}
+use Rattle.std.specs.Prelude.{ℕ, ◌+◌, ◌*◌, ◌≤◌, ◌<◌, ◌≡◌, ◌≢◌, Bool, Option, Some, None, List, [], ◌∷◌, reverse, length}
 use Rattle.patterns.specs.Term.{Node, npow}
 use Rattle.patterns.specs.First.{Exp, exponents}
 use Rattle.patterns.specs.Push.{pushes}
@@ -8,6 +8,7 @@ use Rattle.table.specs.Nodes.{node_at, side, load}
 use Rattle.table.specs.Answer.{Says}
 use Rattle.table.specs.Repeats.{Closed}
 use Rattle.table.specs.declared.Held.{Held}
+use Rattle.table.specs.declared.Triple.{Triple}
 use Rattle.table.specs.declared.Outcome.{Outcome}
 use Rattle.table.specs.declared.Outcome.TheVariants.{Same, Other, Full}
 
@@ -40,6 +41,11 @@ pub record PowerPartsNext (w : List ℕ) (base k p code a b r : ℕ) : Type 0 wh
 
 -- ---- what the state tells
 
+-- what the two numbers of the power that waits come to
+unfoldable pub weight : Option Triple → ℕ
+weight (Some power) = power.a + power.b
+weight None = 0
+
 -- as many nodes as the stack has are settled, and where they part
 pub record Tallied (w : List ℕ) (base n : ℕ) (ns : List (Node Exp)) (h : Held) : Type 0 where
   pub nodes : h.nodes ≡ length ns
@@ -48,23 +54,24 @@ pub record Tallied (w : List ℕ) (base n : ℕ) (ns : List (Node Exp)) (h : Hel
 -- the nodes that have come, merged, are those of a stack: all are settled, and a power that comes next is a node of its own; or all but a power on
 -- top, that waits for its like
 pub data Tracks (w : List ℕ) (base n : ℕ) (h : Held) : List (Node Exp) → Type 0 where
-  rests : {ns : List (Node Exp)} → h.power.code ≡ 0 → Closed ns → Tallied w base n ns h
+  rests : {ns : List (Node Exp)} → h.power ≡ None → Closed ns → Tallied w base n ns h
       → Tracks w base n h ns
-  waits : {ns ms : List (Node Exp)} (s : ℕ) → h.power.code ≡ 3 * s + 2 → ns ≡ npow s (h.power.a, h.power.b) ∷ ms → Tallied w base n ms h → Tracks w base n h ns
+  waits : {ns ms : List (Node Exp)} {power : Triple} (s : ℕ) → h.power ≡ Some power → power.code ≡ 3 * s + 2 → ns ≡ npow s (power.a, power.b) ∷ ms → Tallied w base n ms h
+      → Tracks w base n h ns
 
 -- no power waits any more
 pub record AtRest (w : List ℕ) (base : ℕ) (h r : Held) : Type 0 where
   pub told : (n : ℕ) (ns : List (Node Exp)) → Tracks w base n h ns → Tallied w base n ns r
-  pub none : r.power.code ≡ 0
+  pub none : r.power ≡ None
   pub low : r.parts ≤ h.parts
   pub few : r.nodes ≤ h.nodes + 1
-  pub light : r.power.a + r.power.b ≤ h.power.a + h.power.b
+  pub light : weight r.power ≤ weight h.power
 
 -- the nodes ms have come, one after the other
 pub record Came (w : List ℕ) (base : ℕ) (ms : List (Node Exp)) (h r : Held) : Type 0 where
   pub told : (n : ℕ) (ns : List (Node Exp)) → Tracks w base n h ns → Tracks w base n r (pushes exponents ns ms)
   pub low : r.parts ≤ h.parts
-  pub light : r.power.a + r.power.b ≤ h.power.a + h.power.b + load ms
+  pub light : weight r.power ≤ weight h.power + load ms
 
 -- one node has come, and settled at most a power and itself
 pub record CameOne (w : List ℕ) (base : ℕ) (m : Node Exp) (h r : Held) : Type 0 where

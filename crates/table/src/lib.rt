@@ -56,12 +56,12 @@ pub struct Triple {
 }
 
 // How far a second side has come: how many nodes are settled; the number of the first of them that differs from the stored node of the same
-// number, or how many are stored; and the words of the power that waits, the first of them 0 where none does.
+// number, or how many are stored; and the words of the power that waits, if one does.
 #[derive(Clone, Copy, Default)]
 pub struct Held {
     pub nodes: usize,
     pub parts: usize,
-    pub power: Triple,
+    pub power: Option<Triple>,
 }
 
 // What a second side amounts to: the nodes that are stored, others, or more than 1,024.

@@ -7,7 +7,7 @@ ghost use Rattle.table.specs.Sides.{node_told, Coded, Room};
 ghost use Rattle.table.specs.Places.{NODES};
 ghost use Rattle.table.specs.Answer.{Assures};
 ghost use Rattle.table.specs.Repeats.{part};
-ghost use Rattle.table.specs.Second.{IsPower, PartsNext, PowerPartsNext, AtRest, CameOne, Concludes};
+ghost use Rattle.table.specs.Second.{IsPower, PartsNext, PowerPartsNext, weight, AtRest, CameOne, Concludes};
 
 use crate::{Held, Item, NODES, Outcome, Triple};
 
@@ -59,13 +59,13 @@ fn settle(w: &[u64], base: usize, h: Held) -> Held
     requires nodes_bound { h.nodes ≤ 2 ^ 32 }
     ensures { AtRest w.now base h result }
 {
-    if h.power.code == 0 {
+    let Some(power) = h.power else {
         return h;
-    }
+    };
     Held {
         nodes: h.nodes + 1,
-        parts: parts_by_power(w, base, h.nodes, h.parts, h.power),
-        power: Triple::default(),
+        parts: parts_by_power(w, base, h.nodes, h.parts, power),
+        power: None,
     }
 }
 
@@ -86,25 +86,31 @@ fn hold_plain(w: &[u64], base: usize, h: Held, code: u64) -> Held
 // A power comes: dropped if it counts nothing, added to the one that waits if that is of the same symbol.
 fn hold_power(w: &[u64], base: usize, h: Held, s: u16, a: u64, b: u64) -> Held
     requires room { Room base h.parts w.now }
-    requires nodes_bound { (h.nodes ≤ 2 ^ 32) × (h.power.a + h.power.b + (a + b) < 2 ^ 64) }
+    requires nodes_bound { (h.nodes ≤ 2 ^ 32) × (weight h.power + (a + b) < 2 ^ 64) }
     ensures { CameOne w.now base (npow s (a, b)) h result }
 {
     if a + b == 0 {
         return h;
     }
     let code = 3 * (s as u64) + 2;
-    if h.power.code == code {
+    let Some(power) = h.power else {
         return Held {
-            power: Triple {
+            power: Some(Triple { code, a, b }),
+            ..h
+        };
+    };
+    if power.code == code {
+        return Held {
+            power: Some(Triple {
                 code,
-                a: h.power.a + a,
-                b: h.power.b + b,
-            },
+                a: power.a + a,
+                b: power.b + b,
+            }),
             ..h
         };
     }
     Held {
-        power: Triple { code, a, b },
+        power: Some(Triple { code, a, b }),
         ..settle(w, base, h)
     }
 }
@@ -112,7 +118,7 @@ fn hold_power(w: &[u64], base: usize, h: Held, s: u16, a: u64, b: u64) -> Held
 // The next node comes.
 pub fn hold(w: &[u64], base: usize, h: Held, node: Item) -> Held
     requires room { Room base h.parts w.now }
-    requires nodes_bound { (h.nodes ≤ 2 ^ 32) × (h.power.a + h.power.b + load (node_told node ∷ []) < 2 ^ 64) × Coded node }
+    requires nodes_bound { (h.nodes ≤ 2 ^ 32) × (weight h.power + load (node_told node ∷ []) < 2 ^ 64) × Coded node }
     ensures { CameOne w.now base (node_told node) h result }
 {
     match node {

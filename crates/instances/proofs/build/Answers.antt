@@ -7,9 +7,7 @@ use Rattle.instances.proofs.Instances.{step_filled, building_fits, built_over, b
 use Rattle.instances.proofs.build.Goals as goal
 
 pub loop-header-init : goal.loop-header-init
-loop-header-init c =
-    let zeros = c.default.ensures in
-    (pushing_start _ _ _ _ _ _ _ c.new-walk.ensures (omega arith), remembers_none zeros.0 zeros.1.0 zeros.1.1)
+loop-header-init c = (pushing_start _ _ _ _ _ _ _ c.new-walk.ensures (omega arith), remembers_none)
 
 pub push_filled-requires : goal.push_filled-requires
 push_filled-requires c = let h = building_fits _ _ _ _ _ _ _ _ _ _ _ _ c.loop-header.invariant.0 c.requires (omega arith) (omega arith) c.loop-header.invariant.1 in record { room = h.0; n_bound = h.1 }

@@ -8,12 +8,11 @@ use Rattle.instances.proofs.second.hold_instance.Goals as goal
 pub loop-header-init : goal.loop-header-init
 loop-header-init c =
     let zeros = c.default.ensures in
-    let none = c.default-2.ensures in
     rw c.into_iter-header-iterator.ensures.into_iter_gives (
       coming_start _ _ _ _ c.new-header-items.ensures,
       omega (arith, zeros.0),
-      remembers_none none.0 none.1.0 none.1.1,
-      record { nodes = zeros.0; parts = refl; code = zeros.1.1.0; a = zeros.1.1.1.0; b = zeros.1.1.1.1 },
+      remembers_none,
+      record { nodes = zeros.0; parts = refl; power = zeros.1.1 },
     )
 
 pub hold_filled-passed-requires : goal.hold_filled-passed-requires
