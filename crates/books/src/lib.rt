@@ -1,7 +1,7 @@
 // The walk over a rule book, whatever hands out its fields: it tests each field, and passes it.
 #![tactic(auto)]
 
-ghost use Rattle.std.specs.Prelude.{◌≡◌, ◌≤◌, set};
+ghost use Rattle.std.specs.Prelude.{◌≡◌, set};
 ghost use Rattle.fields.specs.Along.{Comes, silent};
 ghost use Rattle.grammar.specs.Books.{
   arities_of,

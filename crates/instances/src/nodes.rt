@@ -87,7 +87,8 @@ impl Iterator for Walk<'_> {
 
     ghost remaining = { λ t. at_most t.left };
 
-    // The next node, unless the walk is over.
+    // The next node, unless the walk is over. Out of line, where the compiler leaves it, an optional header goes through memory at each node.
+    #[inline(always)]
     fn next(&mut self) -> Option<Header> {
         let Stand { at, pending } = self.stand;
         if is_over(self.stand, self.left) {

@@ -4,8 +4,7 @@ use Prim.Native.Nat.{ℕ, ◌<◌}
 use mathlib.Core.Path.{◌≡◌, sym, ◌∙◌, ap, subst, fun_ext}
 use mathlib.Core.List.{List, []}
 use mathlib.Core.Bool.{false}
-use native.Mathlib.Omega.{arith}
-use lib.ListN.{length, take, length-map}
+use lib.ListN.{take}
 use Rattle.patterns.specs.Reason.{book_place}
 use Rattle.fields.specs.declared.Walker.{Walker}
 use Rattle.fields.specs.Source.{Walk}

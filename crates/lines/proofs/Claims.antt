@@ -5,8 +5,7 @@ use mathlib.Core.Logic.{◌≢◌, ◌⊎◌, inl, inr}
 use mathlib.Core.List.{List, [], ◌∷◌, ◌++◌}
 use mathlib.Core.Option.{some, some-injective}
 use native.Mathlib.Omega.{arith}
-use lib.ListN.{length, get_or, set, get_elem?, length-set}
-use lib.Seq.{get_or-set_same, get_or-set_other}
+use lib.ListN.{length, get_or, get_elem?}
 use Rattle.bits.specs.Packed.{width}
 use Rattle.bits.proofs.Groups.{width_append}
 use Rattle.patterns.specs.First.{Exp, Pair, one}

@@ -2,13 +2,12 @@
 use Rattle.std.specs.Prelude.{Ok, Err}
 use mathlib.Core.Path.{◌≡◌, refl, sym, ap, ◌∙◌, subst}
 use mathlib.Core.List.{List}
-use mathlib.Core.Bool.{true}
 use mathlib.Core.Option.{Option, none, some}
 use Prim.Native.Nat.{ℕ}
 use native.Mathlib.Omega.{arith}
 use Rattle.bits.specs.declared.Cursor.{Cursor}
 use Rattle.fields.specs.Source.{Field}
-use Rattle.fields.specs.Kinds.{FieldKind, Range, test, spent}
+use Rattle.fields.specs.Kinds.{FieldKind, Range, test}
 use Rattle.fields.specs.Grammar.{Grammar, done, ask, bind, on_field, tested}
 use Rattle.scans.specs.Glance.{Scan}
 use Rattle.scans.specs.Glance.{Glance, past, field_in_bytes, glance, glanced, Scans}

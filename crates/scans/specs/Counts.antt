@@ -1,9 +1,6 @@
 -- How many calls each rule has, as the walk by bits over a book notes it.
 use Rattle.std.specs.Prelude.{ℕ, ◌≡◌, List}
 use Rattle.bits.specs.declared.Cursor.{Cursor}
-use Rattle.patterns.specs.First.{Exp}
-use Rattle.patterns.specs.Derive.{Book}
-use Rattle.fields.specs.Grammar.{Grammar}
 use Rattle.grammar.specs.Books.{RuleBook, a_book}
 use Rattle.grammar.specs.Limits.{call_counts}
 use Rattle.books.specs.Counts.{noted}

@@ -1,5 +1,5 @@
 -- `comparing::rights::led` meets its contract, by what stands behind the call.
-use mathlib.Core.Bool.{false≢true, true≢false}
+use mathlib.Core.Bool.{true≢false}
 use mathlib.Core.Path.{sym, ◌∙◌}
 use Rattle.comparing.proofs.Looking.{spent_met, spent_unmet, present_met, present_unmet, not_met, not_unmet, led_nothing, led_by}
 use Rattle.comparing.proofs.rights.led.Goals.{in-Judged, in-Pending, in-Nothing}
