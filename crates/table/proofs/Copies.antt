@@ -1,70 +1,65 @@
 -- Nodes of a side that are copied behind the last, or that come again to a second side.
-use Prim.Native.Nat.{ℕ, zero, suc, ◌+◌, ◌*◌, ◌-◌, ◌≤◌, ◌<◌}
+use Prim.Native.Nat.{ℕ, suc, ◌+◌, ◌*◌, ◌-◌, ◌≤◌, ◌<◌}
 use mathlib.Core.Path.{◌≡◌, sym, ap, ap₂, subst, ◌∙◌}
 use mathlib.Core.List.{List, [], ◌∷◌, ◌++◌}
 use Rattle.std.proofs.lemmas.Option.{none-some}
+use native.Mathlib.Numerals.{add-one}
 use native.Mathlib.Omega.{arith}
-use lib.ListN.{length, get_or, length-append}
-use Rattle.std.specs.List.{CopiedTo, SameBelow, SameFrom}
+use lib.ListN.{length, length-append}
 use Rattle.patterns.specs.Term.{Node}
 use Rattle.patterns.specs.First.{Exp, exponents}
 use Rattle.patterns.specs.Push.{pushes}
 use Rattle.patterns.proofs.Push.{pushes_grow}
 use Rattle.table.specs.Places.{SIDE, NODES}
-use Rattle.table.specs.Nodes.{node_at, stack}
+use Rattle.table.specs.Nodes.{node_at, with_node, stack, Words}
 use Rattle.table.specs.Sides.{Room, Stacked, Became, Pushes}
 use Rattle.table.specs.Repeats.{Closed, part}
 use Rattle.table.specs.Second.{Parts, alike, Tracks, rests, waits, Came}
 use Rattle.table.specs.declared.Held.{Held}
 use Rattle.std.specs.Prelude.{Option, Some, None}
-use Rattle.table.proofs.Nodes.{stack_length, stack_kept}
-use Rattle.table.proofs.Writes.{kept_self}
-use Rattle.table.proofs.Pushing.{became_as}
+use Rattle.table.proofs.Nodes.{stack_length, words_node}
+use Rattle.table.proofs.Writes.{kept_self, kept_then}
+use Rattle.table.proofs.Pushing.{became_as, store_one}
 use Rattle.table.proofs.Parting.{parts_none}
-use Rattle.table.proofs.Repeats.{pushes_over, closed_both, part_length, stack_part, stack_below}
+use Rattle.table.proofs.Repeats.{pushes_over, closed_both, part_length, node_same, stack_part, stack_below}
 
 -- ---- copied
 
-module _ (w : List ℕ) (base n start count : ℕ) (room : Room base n w) where
-  pub copied_full : NODES < n + count → Became base (part w base start count ++ stack w base n) w w None
+module _ (w : List ℕ) (base n start : ℕ) (room : Room base n w) where
+  pub copied_none : Became base (part w base start 0 ++ stack w base n) w w (Some (n + 0))
+  unfolding part Stacked
+  copied_none =
+      let same : n + 0 ≡ n = omega arith in
+      record { holds = (omega (arith, room.few), ap (stack w base) same); kept = kept_self base SIDE w }
+
+  pub copied_full : (count : ℕ) → NODES < n + count → Became base (part w base start count ++ stack w base n) w w None
   unfolding Stacked
-  copied_full l = record {
+  copied_full count l = record {
     holds = omega (arith, length-append (part w base start count) (stack w base n), part_length w base start count, stack_length w base n);
     kept = kept_self base SIDE w;
   }
 
-  -- the words behind the last node became those of the nodes from `start` on, and no other word has changed
-  module _ (v : List ℕ) (m : ℕ) (words : m ≡ 3 * count) (few : n + count ≤ NODES) (size : length v ≡ length w)
-      (copied : CopiedTo w v (base + 3 * start) (base + 3 * n) m) (low : SameBelow w v (base + 3 * n)) (high : SameFrom w v (base + 3 * n + m)) where
-    word_copied : (k x : ℕ) → k < count → x < 3 → get_or v (base + 3 * (n + k) + x) 0 ≡ get_or w (base + 3 * (start + k) + x) 0
-    word_copied k x l f =
-        let e : base + 3 * start + (base + 3 * (n + k) + x - (base + 3 * n)) ≡ base + 3 * (start + k) + x = omega arith in
-        copied (base + 3 * (n + k) + x) 0 (omega arith) (omega arith) ∙ ap (λ i. get_or w i 0) e
-
-    node_copied : (k : ℕ) → k < count → node_at v (base + 3 * (n + k)) ≡ node_at w (base + 3 * (start + k))
-    unfolding node_at
-    node_copied k l =
-        let at : base + 3 * (n + k) + 0 ≡ base + 3 * (n + k) = omega arith in
-        let from : base + 3 * (start + k) + 0 ≡ base + 3 * (start + k) = omega arith in
-        let first : get_or v (base + 3 * (n + k)) 0 ≡ get_or w (base + 3 * (start + k)) 0 =
-        ap (λ i. get_or v i 0) (sym at) ∙ word_copied k 0 l (omega arith) ∙ ap (λ i. get_or w i 0) from in
-        rw (first, word_copied k 1 l (omega arith), word_copied k 2 l (omega arith))
-
-    stack_copied : (k : ℕ) → k ≤ count → stack v base (n + k) ≡ part w base start k ++ stack w base n
-    unfolding part stack
-    stack_copied zero l =
-        let same : n + 0 ≡ n = omega arith in
-        ap (stack v base) same ∙ stack_kept w v base n (λ k p q. low k 0 q)
-    stack_copied (suc k) l =
-        let up : n + suc k ≡ suc (n + k) = omega arith in
-        ap (stack v base) up ∙ ap₂ ◌∷◌ (node_copied k (omega arith)) (stack_copied k (omega arith))
-
-    pub copied_all : Became base (part w base start count ++ stack w base n) w v (Some (n + count))
+  module _ (v : List ℕ) (k : ℕ) (c : Became base (part w base start k ++ stack w base n) w v (Some (n + k))) where
+    below : stack v base n ≡ stack w base n
     unfolding Stacked
-    copied_all = record {
-      holds = (few, stack_copied count (omega arith));
-      kept = record { size = size; low = λ k l. low k 0 (omega arith); high = λ k l. high k 0 (omega arith) };
-    }
+    below =
+        subst (λ i. stack v base i ≡ stack w base n) (stack_length w base n)
+        (stack_below v base (n + k) (part w base start k) (stack w base n) c.holds.1)
+
+    more : {m : Node Exp} → m ≡ node_at v (base + 3 * (start + k)) → start + k < n → m ∷ stack v base (n + k) ≡ part w base start (suc k) ++ stack w base n
+    unfolding part Stacked
+    more e l = ap₂ ◌∷◌ (e ∙ node_same v w base n (start + k) below l) c.holds.1
+
+    -- one node more, by its words
+    pub copied_more : (u : List ℕ) {x y z : ℕ} → start + k < n → n + k < NODES → Words v (base + 3 * (start + k)) x y z
+        → u ≡ with_node v (base + 3 * (n + k)) x y z
+        → Became base (part w base start (k + 1) ++ stack w base n) w u (Some (n + (k + 1)))
+    copied_more u l f s e =
+        let one = store_one v base (n + k) _ _ _ (record { within = omega (arith, room.within, c.kept.size); few = omega arith }) u (λ z. omega arith) e in
+        let next : n + k + 1 ≡ n + (k + 1) = omega arith in
+        subst (λ i. Became base (part w base start (k + 1) ++ stack w base n) w u (Some i)) next
+        (subst (λ i. Became base (part w base start i ++ stack w base n) w u (Some (n + k + 1))) (sym (add-one k))
+        (became_as (more (words_node s) l) (record { holds = one.holds; kept = kept_then c.kept one.kept })))
 
 -- on a closed side that is what a push of the nodes gives that they came from
 pub copied_pushed : {base : ℕ} {w v : List ℕ} {r : Option ℕ} (n start count : ℕ) (ms : List (Node Exp)) → Closed (stack w base n)

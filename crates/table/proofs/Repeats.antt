@@ -1,23 +1,22 @@
 -- What is pushed above a place where nothing merges: it is what it is on an empty stack, and what stands below stays.
 use Prim.Native.Nat.{ℕ, zero, suc, ◌+◌, ◌*◌, ◌-◌, ◌%◌, ◌≤◌, ◌<◌}
 use mathlib.Core.Path.{◌≡◌, refl, sym, ap, ap₂, subst, ◌∙◌}
-use mathlib.Core.Bool.{Bool, true}
+use mathlib.Core.Bool.{Bool, true, false, ◌&&◌}
 use mathlib.Core.Logic.{ite}
 use mathlib.Core.List.{List, [], ◌∷◌, ◌++◌}
 use native.Mathlib.Decide.{ℕ_discrete}
+use native.Mathlib.Numerals.{add-one}
 use native.Mathlib.Omega.{arith}
-use lib.ListN.{length, get_or, take, drop, length-append}
-use lib.Pointwise.{pointwise}
-use Rattle.std.specs.Prelude.{nat_eq}
-use Rattle.std.proofs.lemmas.List.{get_or-take, get_or-drop}
-use Rattle.std.proofs.lemmas.Slice.Eq.{bytes_eq-Decides}
+use lib.Dec.{eqb}
+use lib.ListN.{length, length-append}
+use borrow.Author.Tests.{eqb-true}
 use Rattle.patterns.specs.Term.{Node, nvar, nfun, npow}
 use Rattle.patterns.specs.First.{Exp, exponents}
 use Rattle.patterns.specs.Push.{put, push, pushes}
-use Rattle.table.specs.Nodes.{node_at, stack, top_code}
+use Rattle.table.specs.Nodes.{node_at, stack, top_code, Words}
 use Rattle.table.specs.Answer.{Assures}
 use Rattle.table.specs.Repeats.{Closed, part}
-use Rattle.table.proofs.Nodes.{tells, stack_length}
+use Rattle.table.proofs.Nodes.{tells, stack_length, words_node}
 use Rattle.table.proofs.Pushing.{plain_rests}
 
 -- ---- pushes above a closed place
@@ -143,47 +142,29 @@ module _ (w : List ℕ) (base : ℕ) where
 
 -- ---- the same nodes at two places
 
--- where the words from two places on are the same, the nodes are
-module _ (w : List ℕ) (base n start count : ℕ)
-    (same : take (3 * count) (drop (base + 3 * n) w) ≡ take (3 * count) (drop (base + 3 * start) w)) where
-  word_again : (k x : ℕ) → k < count → x < 3 → get_or w (base + 3 * (n + k) + x) 0 ≡ get_or w (base + 3 * (start + k) + x) 0
-  word_again k x l f =
-      let i = 3 * k + x in
-      let here : (m : ℕ) → get_or (take (3 * count) (drop (base + 3 * m) w)) i 0 ≡ get_or w (base + 3 * (m + k) + x) 0 = λ (m : ℕ).
-      let e : base + 3 * m + (3 * k + x) ≡ base + 3 * (m + k) + x = omega arith in
-      get_or-take (3 * count) (drop (base + 3 * m) w) i 0 (omega arith)
-      ∙ get_or-drop (base + 3 * m) w i 0
-      ∙ ap (λ j. get_or w j 0) e in
-      sym (here n) ∙ ap (λ l. get_or l i 0) same ∙ here start
+pub part_none : (w : List ℕ) (base n start : ℕ) → part w base n 0 ≡ part w base start 0
+unfolding part
+part_none w base n start = refl
 
-  node_again : (k : ℕ) → k < count → node_at w (base + 3 * (n + k)) ≡ node_at w (base + 3 * (start + k))
-  unfolding node_at
-  node_again k l =
-      let at : (m : ℕ) → base + 3 * (m + k) + 0 ≡ base + 3 * (m + k) = λ (m : ℕ). omega arith in
-      let first : get_or w (base + 3 * (n + k)) 0 ≡ get_or w (base + 3 * (start + k)) 0 =
-      ap (λ j. get_or w j 0) (sym (at n)) ∙ word_again k 0 l (omega arith) ∙ ap (λ j. get_or w j 0) (at start) in
-      rw (first, word_again k 1 l (omega arith), word_again k 2 l (omega arith))
+pub part_more : (w : List ℕ) (base n start k : ℕ) → part w base n k ≡ part w base start k
+    → node_at w (base + 3 * (n + k)) ≡ node_at w (base + 3 * (start + k)) → part w base n (k + 1) ≡ part w base start (k + 1)
+unfolding part
+part_more w base n start k e f = subst (λ i. part w base n i ≡ part w base start i) (sym (add-one k)) (ap₂ ◌∷◌ f e)
 
-  nodes_again : (k : ℕ) → k ≤ count → part w base n k ≡ part w base start k
-  unfolding part
-  nodes_again zero l = refl
-  nodes_again (suc k) l = ap₂ ◌∷◌ (node_again k (omega arith)) (nodes_again k (omega arith))
+pub part_all : (w : List ℕ) (base n start k count : ℕ) → k ≡ count → part w base n k ≡ part w base start k → part w base n count ≡ part w base start count
+part_all w base n start k count l e = subst (λ i. part w base n i ≡ part w base start i) l e
 
-  part_again : part w base n count ≡ part w base start count
-  part_again = nodes_again count (omega arith)
+both : (a b : Bool) → (a && b) ≡ true → (a ≡ true) × (b ≡ true)
+both true true e = (refl, refl)
+both true false e = let z : ◌≡◌ {A = ℕ} 0 1 = cc in absurd (omega arith)
+both false b e = let z : ◌≡◌ {A = ℕ} 0 1 = cc in absurd (omega arith)
 
--- that is what `==` tells of them
-pub slices_again : {r : Bool} (w : List ℕ) (base n start count : ℕ)
-    → r ≡ pointwise nat_eq (take (base + 3 * n + 3 * count - (base + 3 * n)) (drop (base + 3 * n) w))
-    (take (base + 3 * start + 3 * count - (base + 3 * start)) (drop (base + 3 * start) w))
-    → Assures (part w base n count ≡ part w base start count) r
-slices_again {r} w base n start count e = record { so = λ z. part_again w base n start count (go z) }
+-- that is what `==` tells of the words of two nodes
+pub words_again : {r : Bool} {w : List ℕ} {p q x y z x' y' z' : ℕ} → Words w p x y z → Words w q x' y' z'
+    → r ≡ (eqb x x' && (eqb y y' && eqb z z')) → Assures (node_at w p ≡ node_at w q) r
+words_again {r} {w} {p} {q} {x} {y} {z} {x'} {y'} {z'} s t e = record { so = λ h. go (both (eqb x x') (eqb y y' && eqb z z') (sym e ∙ h)) }
   where
-    cut : (m : ℕ) → base + 3 * m + 3 * count - (base + 3 * m) ≡ 3 * count
-    cut m = omega arith
-
-    go : r ≡ true → take (3 * count) (drop (base + 3 * n) w) ≡ take (3 * count) (drop (base + 3 * start) w)
-    go z =
-        ap (λ k. take k (drop (base + 3 * n) w)) (sym (cut n))
-        ∙ (bytes_eq-Decides _ _).0 (sym e ∙ z)
-        ∙ ap (λ k. take k (drop (base + 3 * start) w)) (cut start)
+    go : (eqb x x' ≡ true) × (eqb y y' && eqb z z' ≡ true) → node_at w p ≡ node_at w q
+    go f =
+        let g = both (eqb y y') (eqb z z') f.1 in
+        sym (words_node s) ∙ rw (eqb-true _ _ f.0, eqb-true _ _ g.0, eqb-true _ _ g.1) (words_node t)

@@ -1,5 +1,5 @@
 -- The nodes that the words of the work table tell, three words a node. Any words tell nodes, so nothing is assumed of them.
-use Rattle.std.specs.Prelude.{ℕ, zero, suc, ◌+◌, ◌*◌, ◌/◌, ◌%◌, cond, List, [], ◌∷◌, reverse, eqb, get_or, set}
+use Rattle.std.specs.Prelude.{ℕ, zero, suc, ◌+◌, ◌*◌, ◌/◌, ◌%◌, ◌≡◌, cond, List, [], ◌∷◌, reverse, eqb, get_or, set}
 use Rattle.patterns.specs.Term.{Node, nvar, nfun, npow}
 use Rattle.patterns.specs.First.{Exp}
 
@@ -11,6 +11,12 @@ node_of code a b =
 -- the node that begins at a place
 unfoldable pub node_at : List ℕ → ℕ → Node Exp
 node_at w p = node_of (get_or w p 0) (get_or w (p + 1) 0) (get_or w (p + 2) 0)
+
+-- the three words at a place are these
+pub record Words (w : List ℕ) (p code a b : ℕ) : Type 0 where
+  pub first : code ≡ get_or w p 0
+  pub second : a ≡ get_or w (p + 1) 0
+  pub third : b ≡ get_or w (p + 2) 0
 
 -- the table with a node's three words written at a place
 unfoldable pub with_node : List ℕ → ℕ → ℕ → ℕ → ℕ → List ℕ

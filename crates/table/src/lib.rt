@@ -5,7 +5,7 @@ pub mod second;
 
 ghost use Rattle.std.specs.Prelude.{◌≡◌, [], ◌∷◌, ◌++◌, ◌+◌, ◌*◌, ◌<◌, ◌≤◌, ◌^◌, length, replicate};
 ghost use Rattle.patterns.specs.Term.{npow};
-ghost use Rattle.table.specs.Nodes.{node_of, with_node, stack, load, top_code};
+ghost use Rattle.table.specs.Nodes.{node_of, with_node, stack, load, top_code, Words};
 ghost use Rattle.table.specs.Sides.{node_told, Coded, Reindexed, Room, Became, Pushes};
 ghost use Rattle.table.specs.Answer.{Assures};
 ghost use Rattle.table.specs.Repeats.{Closed, part};
@@ -87,6 +87,18 @@ pub fn reindexed(s: u16, a: u16, b: u16, i: u16, j: u16) -> Item
         symbol: s,
         a: times(a, i),
         b: times(a, j) + (b as u64),
+    }
+}
+
+// The three words of the node at a place.
+fn stored(w: &[u64], p: usize) -> Triple
+    requires { p + 3 ≤ length w.now }
+    ensures { Words w.now p result.code result.a result.b }
+{
+    Triple {
+        code: w[p],
+        a: w[p + 1],
+        b: w[p + 2],
     }
 }
 
@@ -182,8 +194,9 @@ pub fn copy(w: &mut [u64], base: usize, n: usize, from: usize, count: usize) -> 
     if n + count > NODES {
         return None;
     }
-    let start = base + 3 * from;
-    w.copy_within(start..start + 3 * count, base + 3 * n);
+    for k in 0..count {
+        write_node(w, base + 3 * (n + k), stored(w, base + 3 * (from + k)));
+    }
     Some(n + count)
 }
 

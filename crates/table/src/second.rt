@@ -2,14 +2,14 @@
 // known that nothing merges with it.
 ghost use Rattle.std.specs.Prelude.{◌≡◌, ◌+◌, ◌%◌, ◌<◌, ◌≤◌, ◌^◌, [], ◌∷◌, length};
 ghost use Rattle.patterns.specs.Term.{npow};
-ghost use Rattle.table.specs.Nodes.{node_of, load};
+ghost use Rattle.table.specs.Nodes.{node_of, node_at, load};
 ghost use Rattle.table.specs.Sides.{node_told, Coded, Room};
 ghost use Rattle.table.specs.Places.{NODES};
 ghost use Rattle.table.specs.Answer.{Assures};
 ghost use Rattle.table.specs.Repeats.{part};
 ghost use Rattle.table.specs.Second.{IsPower, PartsNext, PowerPartsNext, weight, AtRest, CameOne, Concludes};
 
-use crate::{Held, Item, NODES, Outcome, Triple};
+use crate::{Held, Item, NODES, Outcome, Triple, stored};
 
 // Whether the node at a place is the power that three words tell.
 fn is_power(w: &[u64], p: usize, power: Triple) -> bool
@@ -127,15 +127,26 @@ pub fn hold(w: &[u64], base: usize, h: Held, node: Item) -> Held
     }
 }
 
+// Whether the nodes at two places have the same words.
+fn is_same(w: &[u64], p: usize, q: usize) -> bool
+    requires { (p + 3 ≤ length w.now) × (q + 3 ≤ length w.now) }
+    ensures { Assures (node_at w.now p ≡ node_at w.now q) result }
+{
+    stored(w, p) == stored(w, q)
+}
+
 // Whether the `count` nodes from number n on are those from number `from` on.
 pub fn again(w: &[u64], base: usize, n: usize, from: usize, count: usize) -> bool
     requires room { Room base (n + count) w.now }
     requires count_bound { from + count ≤ NODES }
     ensures { Assures (part w.now base n count ≡ part w.now base from count) result }
 {
-    let p = base + 3 * n;
-    let q = base + 3 * from;
-    w[p..p + 3 * count] == w[q..q + 3 * count]
+    for k in 0..count {
+        if !is_same(w, base + 3 * (n + k), base + 3 * (from + k)) {
+            return false;
+        }
+    }
+    true
 }
 
 // What a second side amounts to of which no node is left, beside the n nodes that are stored.

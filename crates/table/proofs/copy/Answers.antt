@@ -1,12 +1,14 @@
--- `table::copy` meets its contract: what `copy_within` does to the words is one copy more of the nodes.
-use Rattle.table.proofs.Copies.{copied_full, copied_all}
+-- `table::copy` meets its contract. The loop's invariant: k nodes are copied.
 use native.Mathlib.Omega.{arith}
+use Rattle.table.proofs.Copies.{copied_none, copied_full, copied_more}
 use Rattle.table.proofs.copy.Goals as goal
 
 pub returns-then-n-count-gt-NODES : goal.returns-then-n-count-gt-NODES
-returns-then-n-count-gt-NODES c = copied_full _ _ _ _ _ c.requires.room (omega arith)
+returns-then-n-count-gt-NODES c = copied_full _ _ _ _ c.requires.room _ (omega arith)
 
-pub returns : goal.returns
-returns c =
-    let words = c.copy_within.ensures.by_index in
-    copied_all _ _ _ _ _ c.requires.room _ _ (omega arith) (omega arith) c.copy_within.ensures.len words.0 words.1 words.2
+pub loop-k-init : goal.loop-k-init
+loop-k-init c = copied_none _ _ _ _ c.requires.room
+
+pub loop-k-preserved : goal.loop-k-preserved
+loop-k-preserved c =
+    copied_more _ _ _ _ c.requires.room _ _ c.loop-k.invariant _ (omega (arith, c.requires.count_bound)) (omega (arith, c.if-n-count-gt-NODES.false)) c.stored.ensures c.write_node.ensures
