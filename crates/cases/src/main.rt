@@ -171,6 +171,25 @@ fn lend<T: Copy + Into<u64>, F: FnOnce(&mut [T])>(rt: &impl Print, lent: &mut [T
     let _ = println!(rt; " left {sum}");
 }
 
+// What is lent, of each kind. A function pays at its entry for every array in it, so each kind has one of its own, and `run` none.
+fn lend_numbers<F: FnOnce(&mut [u64])>(rt: &impl Print, n: u16, step: F)
+    requires { F.IsAlwaysCallable step }
+{
+    lend(rt, &mut [7u64; PLACES][..n as usize], step);
+}
+
+fn lend_fields<F: FnOnce(&mut [u16])>(rt: &impl Print, n: u16, step: F)
+    requires { F.IsAlwaysCallable step }
+{
+    lend(rt, &mut [0xABCDu16; PLACES][..n as usize], step);
+}
+
+fn lend_bytes<F: FnOnce(&mut [u8])>(rt: &impl Print, n: u16, step: F)
+    requires { F.IsAlwaysCallable step }
+{
+    lend(rt, &mut [0xABu8; PLACES][..n as usize], step);
+}
+
 fn run(
     rt: &impl Print,
     operation: Operation,
@@ -179,35 +198,34 @@ fn run(
     second: &[u8],
     third: &[u8],
 ) {
-    let n = room as usize;
     match operation {
-        Operation::Judge => lend(rt, &mut [7u64; PLACES][..n], |work| {
+        Operation::Judge => lend_numbers(rt, room, |work| {
             print_verdict(rt, judging::judge(first, second, work));
         }),
-        Operation::JudgeInput => lend(rt, &mut [7u64; PLACES][..n], |work| {
+        Operation::JudgeInput => lend_numbers(rt, room, |work| {
             print_verdict(rt, judging::judge_input(first, work));
         }),
-        Operation::ReadBook => lend(rt, &mut [0xABCDu16; PLACES][..n], |out| {
+        Operation::ReadBook => lend_fields(rt, room, |out| {
             print_answer(rt, "filled", layout::read_book(first, out));
         }),
-        Operation::ReadCertificate => lend(rt, &mut [0xABCDu16; PLACES][..n], |out| {
+        Operation::ReadCertificate => lend_fields(rt, room, |out| {
             print_answer(rt, "filled", layout::read_certificate(first, second, out));
         }),
-        Operation::WriteBook => lend(rt, &mut [0xABu8; PLACES][..n], |out| {
+        Operation::WriteBook => lend_bytes(rt, room, |out| {
             print_answer(
                 rt,
                 "filled",
                 write_fields(first, |fields| layout::write_book(fields, out)),
             );
         }),
-        Operation::WriteCertificate => lend(rt, &mut [0xABu8; PLACES][..n], |out| {
+        Operation::WriteCertificate => lend_bytes(rt, room, |out| {
             let said = write_fields(
                 second,
                 |fields| layout::write_certificate(first, fields, out),
             );
             print_answer(rt, "filled", said);
         }),
-        Operation::Covers | Operation::Unknown => lend(rt, &mut [7u64; PLACES][..n], |work| {
+        Operation::Covers | Operation::Unknown => lend_numbers(rt, room, |work| {
             print_answer(rt, "covered", covers::covers(first, second, third, work));
         }),
     }
