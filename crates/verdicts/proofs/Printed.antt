@@ -1,5 +1,5 @@
 -- The line of each kind of verdict, and what a caller gets who lends room for it.
-use Prim.Native.Nat.{ℕ, ◌≤◌}
+use Prim.Native.Nat.{ℕ, ◌≤◌, ◌<◌}
 use mathlib.Core.Path.{◌≡◌, ap, sym, ◌∙◌, subst}
 use mathlib.Core.List.{List, [], ◌∷◌, ◌++◌}
 use native.Mathlib.Omega.{arith}
@@ -13,6 +13,7 @@ use Rattle.patterns.specs.Reason.{Reason}
 use Rattle.patterns.specs.Judge.{refuse}
 use Rattle.layout.specs.Answers.{output}
 use Rattle.answers.specs.declared.Refusal.{Refusal}
+use Rattle.answers.proofs.Carrying.{carried_field, carried_part, carried_low, carried_between, carried_high}
 use Rattle.answers.specs.declared.Acceptance.{Acceptance}
 use Rattle.verdicts.specs.Printing.{accept_word, refuse_word, sentence, refusal_line, line_of, written_length, Prints}
 
@@ -23,14 +24,36 @@ pub accepted_printed : (out : List ℕ) {out' : List ℕ} {r : ℕ} {v : Result 
 unfolding paper_verdict paper_pace line_of
 accepted_printed out {out'} {r} a e p = subst (λ (v : Result Acceptance Refusal). Prints (line_of (paper_verdict v)) out r out') (sym e) p
 
--- ---- a refusal, of which its number chooses what is told
+-- ---- a refusal, by its number
 
-pub carried_printed : {out out' : List ℕ} {r w : ℕ} (f told : Refusal) → paper_refusal told ≡ carried f.number (w_of f.w) f.a f.b → w ≡ w_of told.w
-    → Prints (sentence refuse_word (told.number ∷ w ∷ told.a ∷ told.b ∷ [])) out r out' → Prints (line_of (refuse (paper_refusal f))) out r out'
-unfolding line_of refusal_line paper_refusal
-carried_printed {out} {out'} {r} {w} f told e place p =
-    subst (λ (t : Reason). Prints (refusal_line t) out r out') e
-    (subst (λ (n : ℕ). Prints (sentence refuse_word (told.number ∷ n ∷ told.a ∷ told.b ∷ [])) out r out') place p)
+module _ (out : List ℕ) {out' : List ℕ} {r : ℕ} (f : Refusal) {w : ℕ} (place : w ≡ w_of f.w) where
+  -- the numbers of a refusal that is carried
+  carried_printed : (a b : ℕ) → carried f.number (w_of f.w) f.a f.b ≡ record { number = f.number; w = w_of f.w; a = a; b = b }
+      → Prints (sentence refuse_word (f.number ∷ w ∷ a ∷ b ∷ [])) out r out' → Prints (line_of (refuse (paper_refusal f))) out r out'
+  unfolding line_of refusal_line paper_refusal
+  carried_printed a b e p =
+      subst (λ (t : Reason). Prints (refusal_line t) out r out') (sym e)
+      (subst (λ (n : ℕ). Prints (sentence refuse_word (f.number ∷ n ∷ a ∷ b ∷ [])) out r out') place p)
+
+  pub field_printed : 3 ≤ f.number → f.number < 8 → Prints (sentence refuse_word (f.number ∷ w ∷ f.a ∷ 0 ∷ [])) out r out'
+      → Prints (line_of (refuse (paper_refusal f))) out r out'
+  field_printed p q = carried_printed f.a 0 (carried_field _ _ _ p q)
+
+  pub part_printed : 9 ≤ f.number → f.number < 17 → Prints (sentence refuse_word (f.number ∷ w ∷ f.a ∷ f.b ∷ [])) out r out'
+      → Prints (line_of (refuse (paper_refusal f))) out r out'
+  part_printed p q = carried_printed f.a f.b (carried_part _ _ _ p q)
+
+  pub low_printed : f.number < 3 → Prints (sentence refuse_word (f.number ∷ w ∷ 0 ∷ 0 ∷ [])) out r out'
+      → Prints (line_of (refuse (paper_refusal f))) out r out'
+  low_printed p = carried_printed 0 0 (carried_low _ _ _ p)
+
+  pub between_printed : 8 ≤ f.number → f.number < 9 → Prints (sentence refuse_word (f.number ∷ w ∷ 0 ∷ 0 ∷ [])) out r out'
+      → Prints (line_of (refuse (paper_refusal f))) out r out'
+  between_printed p q = carried_printed 0 0 (carried_between _ _ _ p q)
+
+  pub high_printed : 17 ≤ f.number → Prints (sentence refuse_word (f.number ∷ w ∷ 0 ∷ 0 ∷ [])) out r out'
+      → Prints (line_of (refuse (paper_refusal f))) out r out'
+  high_printed p = carried_printed 0 0 (carried_high _ _ _ p)
 
 pub refused_printed : (out : List ℕ) {out' : List ℕ} {r : ℕ} {v : Result Acceptance Refusal} (f : Refusal) → v ≡ Err f
     → Prints (line_of (refuse (paper_refusal f))) out r out' → Prints (line_of (paper_verdict v)) out r out'

@@ -88,13 +88,17 @@ fn put_sentence(word: &[u8], numbers: &[usize], out: &mut [u8]) -> usize
     n
 }
 
-// The line of a refusal: its number chooses which of A and B are told.
+// The line of a refusal: its number chooses which of A and B are told. `answers::carried` chooses alike, for a refusal; 01 names the match for both.
 fn refusal_line(refusal: Refusal, out: &mut [u8]) -> usize
     ensures { Prints (line_of (refuse (paper_refusal refusal))) out.old result out.new }
 {
-    let told = answers::carried(refusal.number, refusal.w, refusal.a, refusal.b);
-    let w = answers::w_number(told.w);
-    put_sentence(b"refuse", &[told.number as usize, w, told.a, told.b], out)
+    let number = refusal.number as usize;
+    let w = answers::w_number(refusal.w);
+    match number {
+        3..=7 => put_sentence(b"refuse", &[number, w, refusal.a, 0], out),
+        9..=16 => put_sentence(b"refuse", &[number, w, refusal.a, refusal.b], out),
+        _ => put_sentence(b"refuse", &[number, w, 0, 0], out),
+    }
 }
 
 // The line of a verdict in the first places of `out`, and its length; where it does not fit, 0 and nothing is written. Lent bytes and
