@@ -13,6 +13,9 @@ use Rattle.bits.specs.Bits.{Taken, bits_at, fits, room_of, read_field}
 pub fits_yes : (s : List ℕ) (w at : ℕ) → w ≤ 16 → at + w ≤ room_of s → fits s w at ≡ true
 fits_yes s w at h l = ap₂ ◌&&◌ (le-leb w 16 h) (le-leb (at + w) (room_of s) l)
 
+pub fits_wide : (s : List ℕ) (w at : ℕ) → 16 < w → fits s w at ≡ false
+fits_wide s w at h = ap (λ (b : Bool). b && leb (at + w) (room_of s)) (lt-leb w 16 h)
+
 pub fits_past : (s : List ℕ) (w at : ℕ) → room_of s < at + w → fits s w at ≡ false
 fits_past s w at h = ap (λ (b : Bool). leb w 16 && b) (lt-leb (at + w) (room_of s) h) ∙ never (leb w 16)
   where

@@ -12,6 +12,13 @@ use Rattle.bits.specs.Window.{woven}
 pub one_shifted : (w : ℕ) → w ≤ 24 → (1 * 2 ^ w) % 2 ^ 64 ≡ 2 ^ w
 one_shifted w h = shl_exact {a = 1} 1 w 64 (omega arith) (omega arith) ∙ omega arith
 
+pub one_shifted_pos : (w : ℕ) → w ≤ 24 → 0 < (1 * 2 ^ w) % 2 ^ 64
+one_shifted_pos w h = rw (one_shifted w h) (pow_pos w)
+
+-- a field of at most 16 bits fits 16 bits
+pub field_lt : (n w : ℕ) → w ≤ 16 → n % ((1 * 2 ^ w) % 2 ^ 64) < 2 ^ 16
+field_lt n w h = rw (one_shifted w (omega arith)) (lt_of_lt_of_le (mod-lt n (pow_pos w)) (pow_mono h))
+
 -- what stands before bit p of a window is a number of p bits
 kept_lt : (x p : ℕ) → x < 2 ^ 24 → p < 8 → x / 2 ^ (24 - p) < 2 ^ p
 kept_lt x p window inside = shr_lt p (24 - p) (subst (λ (n : ℕ). x < 2 ^ n) whole window)

@@ -40,6 +40,10 @@ bits_append s at w (suc v) =
 shifted_whole : (s : List ℕ) (k n x : ℕ) → 1 ≤ n → n ≤ 8 → x ≡ bits_at s (8 * k) (8 * (n - 1)) → (x * 2 ^ 8) % 2 ^ 64 ≡ x * 2 ^ 8
 shifted_whole s k n x h l e = shl_exact (8 * (n - 1)) 8 64 (subst (λ (m : ℕ). m < 2 ^ (8 * (n - 1))) (sym e) (bits_lt s (8 * k) (8 * (n - 1)))) (omega arith)
 
+-- and a byte more does not wrap
+pub ending_small : (s : List ℕ) (k n x b : ℕ) → 1 ≤ n → x ≡ bits_at s (8 * k) (8 * (n - 1)) → b < 256 → (x * 2 ^ 8) % 2 ^ 64 + b < 2 ^ 64
+ending_small s k n x b h e l = omega arith
+
 module _ (s : List ℕ) (small : Bytes s) where
   -- one byte more
   pub byte_more : (k n : ℕ) → bits_at s (8 * k) (8 * suc n) ≡ bits_at s (8 * k) (8 * n) * 2 ^ 8 + byte_at s (k + n)
