@@ -16,6 +16,9 @@ use Rattle.books.proofs.Counting.{counted_none, counted_no, counted_more}
 pub record NotesCalls {S : Type 0} (st : Steps S) (p : Grammar (Book Exp)) (x : S) (k : ℕ) (cs : List ℕ) (q : Grammar (Book Exp)) (y : S) (j : ℕ) (ds : List ℕ) : Type 0 where
   pub whole : {after : List ℕ} → CountedAlong st q y j ds after → CountedAlong st p x k cs after
 
+pub notes_here : {S : Type 0} {st : Steps S} {p : Grammar (Book Exp)} {x : S} {k : ℕ} {cs : List ℕ} → NotesCalls st p x k cs p x k cs
+notes_here = record { whole = λ h. h }
+
 -- n rules are left, from number j on
 module _ {S : Type 0} {st : Steps S} (ar : ℕ → ℕ) {p : Grammar (Book Exp)} {x : S} {k : ℕ} {cs : List ℕ} (n j : ℕ) {y : S} {ds : List ℕ} (N : NotesCalls st p x k cs (rules_of ar n) y j ds) where
   pub notes_end : n ≡ 0 → CountedAlong st p x k cs ds

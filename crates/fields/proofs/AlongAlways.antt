@@ -12,7 +12,7 @@ use Rattle.fields.specs.Along.End.{ok, no}
 use Rattle.fields.proofs.Always.{Always, field_below}
 use Rattle.fields.proofs.Alongs.{found, comes_ok}
 
-always_along : {A S : Type 0} (P : A → Type 0) (st : Steps S) (p : Grammar A) → Always P p → (x : S) (a : A) (y : S) → along st p x ≡ ok a y → P a
+pub always_along : {A S : Type 0} (P : A → Type 0) (st : Steps S) (p : Grammar A) → Always P p → (x : S) (a : A) (y : S) → along st p x ≡ ok a y → P a
 unfolding Always along
 always_along P st (done b) h x a y e = subst P (same e) h
   where

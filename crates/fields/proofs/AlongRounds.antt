@@ -12,6 +12,9 @@ use Rattle.fields.proofs.Alongs.{seq_no, seq_on, seq_last, comes_done}
 pub record LeadsTo {A B V S : Type 0} (st : Steps S) (p : Grammar A) (x : S) (val : A → V) (q : Grammar B) (y : S) (val₁ : B → V) : Type 0 where
   pub whole : {r : Result V ℕ} {z : S} → Comes st q y val₁ r z → Comes st p x val r z
 
+pub leads_here : {A V S : Type 0} {st : Steps S} {p : Grammar A} {x : S} {val : A → V} → LeadsTo st p x val p x val
+leads_here = record { whole = λ h. h }
+
 -- a loop over n things, of which n are left at y
 module _ {A B C V S : Type 0} {many : ℕ → ℕ → Grammar B} {one : ℕ → Grammar A} {next : ℕ → A → ℕ} {join : A → B → B} {end : ℕ → B} (R : Rounds many one next join end) {st : Steps S} {p : Grammar C} {x y : S} {val : C → V} {val₁ : B → V} (n k : ℕ) (L : LeadsTo st p x val (many n k) y val₁) where
   pub rounds_end : n ≡ 0 → Comes st p x val (Ok (val₁ (end k))) y

@@ -16,6 +16,10 @@ use Rattle.fields.proofs.Many.{Rounds, many_none, many_some}
 pub record Leads {A B : Type 0} (src : Source) (p : Grammar A) (c : Walker) (ws bs : List ℕ) (val : A → ℕ) (q : Grammar B) (d : Walker) (ws₁ bs₁ : List ℕ) (val₁ : B → ℕ) : Type 0 where
   pub whole : {r : Walk} {ws₂ bs₂ : List ℕ} → Ran src q d ws₁ bs₁ val₁ r ws₂ bs₂ → Ran src p c ws bs val r ws₂ bs₂
 
+pub leads_here : {A : Type 0} {src : Source} {p : Grammar A} {c : Walker} {ws bs : List ℕ} {val : A → ℕ}
+    → Leads src p c ws bs val p c ws bs val
+leads_here = record { whole = λ h. h }
+
 -- a loop over n things, of which n are left at d
 module _ {A B C : Type 0} {many : ℕ → ℕ → Grammar B} {one : ℕ → Grammar A} {next : ℕ → A → ℕ} {join : A → B → B} {end : ℕ → B} (R : Rounds many one next join end) {src : Source} {p : Grammar C} {c d : Walker} {ws bs ws₁ bs₁ : List ℕ} {val : C → ℕ} {val₁ : B → ℕ} (n x : ℕ) (L : Leads src p c ws bs val (many n x) d ws₁ bs₁ val₁) where
   pub rounds_end : n ≤ 0 → Ran src p c ws bs val (Ok (val₁ (end x), d)) ws₁ bs₁

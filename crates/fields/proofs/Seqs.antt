@@ -14,6 +14,12 @@ use Rattle.fields.specs.Grammar.{Grammar, done, ask, bind, look, on_field, teste
 use Rattle.fields.specs.Run.{State, state, passed, Result, run, Shown, shown, Ran}
 use Rattle.fields.specs.Run.Result.{ok, no}
 
+-- a run from a walker that is known
+pub ran_at : {A : Type 0} {src : Source} {p : Grammar A} {c d : Walker} {ws bs ws₁ bs₁ : List ℕ} {val : A → ℕ} {r : Walk} → c ≡ d
+    → Ran src p c ws bs val r ws₁ bs₁ → Ran src p d ws bs val r ws₁ bs₁
+ran_at {src = src} {p = p} {ws = ws} {bs = bs} {ws₁ = ws₁} {bs₁ = bs₁} {val = val} {r = r} e h =
+    subst (λ (x : Walker). Ran src p x ws bs val r ws₁ bs₁) e h
+
 -- ---- a run of `bind`
 
 module _ {A B : Type 0} (src : Source) (f : A → Grammar B) where
