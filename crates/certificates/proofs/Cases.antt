@@ -3,6 +3,7 @@ use Rattle.std.specs.Prelude.{Result, Ok, Err}
 use Prim.Native.Nat.{ℕ, ◌+◌, ◌<◌, min}
 use mathlib.Core.Path.{◌≡◌, refl, sym, ◌∙◌}
 use mathlib.Core.List.{List, [], ◌∷◌}
+use mathlib.Core.Option.{none, some}
 use mathlib.Core.Logic.{◌≢◌}
 use mathlib.Core.Bool.{Bool, true, false}
 use native.Mathlib.Omega.{arith}
@@ -12,7 +13,7 @@ use lib.Dec.{ltb}
 use Rattle.fields.specs.Source.{Field}
 use Rattle.fields.specs.Kinds.{from_to, one_call, between, Bounded}
 use Rattle.fields.specs.Kinds.{FieldKind as kind}
-use Rattle.fields.specs.Grammar.{field}
+use Rattle.fields.specs.Grammar.{done, bind, field}
 use Rattle.fields.specs.Along.{Steps, Comes, silent}
 use Rattle.fields.proofs.Alongs.{seq_no, seq_on, comes_done, field_no, field_refused, field_in}
 use Rattle.fields.proofs.Ranges.{between_ok, between_high}
@@ -23,19 +24,25 @@ use Rattle.terms.specs.Values.{left_of}
 
 -- ---- a bit that says whether a right follows
 
-module _ {S : Type 0} {st : Steps S} (ar : ℕ → ℕ) {b : ℕ} {x : S} where
-  pub right_empty : b ≡ 0 → Comes st (a_right_if ar b) x silent (Ok tt) x
+module _ (ar : ℕ → ℕ) (b : ℕ) where
+  pub right_empty : b ≡ 0 → a_right_if ar b ≡ done none
   unfolding a_right_if
-  right_empty h = rw (eq-eqb b 0 h) (comes_done _ x)
+  right_empty h = rw (eq-eqb b 0 h)
 
-  module _ (some : b ≢ 0) {y : S} {q : Result ℕ ℕ} (term : Comes st (any_term ar) x left_of q y) where
+  pub right_term : b ≢ 0 → a_right_if ar b ≡ bind (any_term ar) (λ g. done (some g.term))
+  unfolding a_right_if
+  right_term h = rw (ne_eqb b 0 h)
+
+module _ {S : Type 0} {st : Steps S} (ar : ℕ → ℕ) {b : ℕ} {x : S} where
+  pub right_empty_comes : b ≡ 0 → Comes st (a_right_if ar b) x silent (Ok tt) x
+  right_empty_comes h = rw (right_empty ar b h) (comes_done _ x)
+
+  module _ (one : b ≢ 0) {y : S} {q : Result ℕ ℕ} (term : Comes st (any_term ar) x left_of q y) where
     pub right_no : {m : ℕ} {r : Result (Unit {0}) ℕ} → q ≡ Err m → r ≡ Err m → Comes st (a_right_if ar b) x silent r y
-    unfolding a_right_if
-    right_no e t = rw (ne_eqb b 0 some) (seq_no term _ e t)
+    right_no e t = rw (right_term ar b one) (seq_no term _ e t)
 
-    pub right_term : {v : ℕ} → q ≡ Ok v → Comes st (a_right_if ar b) x silent (Ok tt) y
-    unfolding a_right_if
-    right_term e = rw (ne_eqb b 0 some) (seq_on term _ e (λ g k. comes_done _ _))
+    pub right_term_comes : {v : ℕ} → q ≡ Ok v → Comes st (a_right_if ar b) x silent (Ok tt) y
+    right_term_comes e = rw (right_term ar b one) (seq_on term _ e (λ g k. comes_done _ _))
 
 -- ---- the rule of an unfold: no number of 8 bits reaches 256, so of more rules than that the first 256 are named
 
@@ -61,14 +68,21 @@ module _ {S : Type 0} (st : Steps S) (ms : List ℕ) {x : S} {f : Field} (g : f 
 
 -- ---- the two kinds of line
 
-module _ {S : Type 0} {st : Steps S} (ar : ℕ → ℕ) (ms : List ℕ) (line : ℕ) {tag : ℕ} {x y : S} {r : Result (Unit {0}) ℕ} where
-  pub kind_unfold : tag ≡ 0 → Comes st (an_unfold ar ms line) x silent r y → Comes st (a_kind ar ms line tag) x silent r y
+module _ (ar : ℕ → ℕ) (ms : List ℕ) (line tag : ℕ) where
+  pub kind_unfold : tag ≡ 0 → a_kind ar ms line tag ≡ an_unfold ar ms line
   unfolding a_kind
-  kind_unfold h k = rw (eq-eqb tag 0 h) k
+  kind_unfold h = rw (eq-eqb tag 0 h)
 
-  pub kind_descent : tag ≢ 0 → Comes st (a_descent ar ms line) x silent r y → Comes st (a_kind ar ms line tag) x silent r y
+  pub kind_descent : tag ≢ 0 → a_kind ar ms line tag ≡ a_descent ar ms line
   unfolding a_kind
-  kind_descent h k = rw (ne_eqb tag 0 h) k
+  kind_descent h = rw (ne_eqb tag 0 h)
+
+module _ {S : Type 0} {st : Steps S} (ar : ℕ → ℕ) (ms : List ℕ) (line : ℕ) {tag : ℕ} {x y : S} {r : Result (Unit {0}) ℕ} where
+  pub kind_unfold_comes : tag ≡ 0 → Comes st (an_unfold ar ms line) x silent r y → Comes st (a_kind ar ms line tag) x silent r y
+  kind_unfold_comes h k = rw (kind_unfold ar ms line tag h) k
+
+  pub kind_descent_comes : tag ≢ 0 → Comes st (a_descent ar ms line) x silent r y → Comes st (a_kind ar ms line tag) x silent r y
+  kind_descent_comes h k = rw (kind_descent ar ms line tag h) k
 
 -- ---- lines
 

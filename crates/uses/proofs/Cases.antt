@@ -2,6 +2,7 @@
 use Rattle.std.specs.Prelude.{Result, Ok}
 use Prim.Native.Nat.{ℕ, ◌-◌}
 use mathlib.Core.Path.{◌≡◌, refl}
+use mathlib.Core.Option.{none, some}
 use mathlib.Core.Logic.{◌≢◌}
 use borrow.Author.Tests.{eq-eqb, ne_eqb}
 use Rattle.patterns.specs.Certificate.{fact, call}
@@ -24,14 +25,21 @@ silent_both h first e second = seq_on first _ e (λ a k. silent_last (h a) secon
 
 -- ---- a bit that says whether a use follows
 
-module _ {S : Type 0} {st : Steps S} (ar : ℕ → ℕ) (line : ℕ) {b : ℕ} {x : S} where
-  pub last_none : b ≡ 0 → Comes st (a_last_if ar line b) x silent (Ok tt) x
+module _ (ar : ℕ → ℕ) (line b : ℕ) where
+  pub last_none : b ≡ 0 → a_last_if ar line b ≡ done none
   unfolding a_last_if
-  last_none h = rw (eq-eqb b 0 h) (comes_done _ x)
+  last_none h = rw (eq-eqb b 0 h)
 
-  pub last_some : {r : Result (Unit {0}) ℕ} {y : S} → b ≢ 0 → Comes st (a_use ar line) x silent r y → Comes st (a_last_if ar line b) x silent r y
+  pub last_some : b ≢ 0 → a_last_if ar line b ≡ bind (a_use ar line) (λ u. done (some u))
   unfolding a_last_if
-  last_some h k = rw (ne_eqb b 0 h) (silent_last _ k)
+  last_some h = rw (ne_eqb b 0 h)
+
+module _ {S : Type 0} {st : Steps S} (ar : ℕ → ℕ) (line : ℕ) {b : ℕ} {x : S} where
+  pub last_none_comes : b ≡ 0 → Comes st (a_last_if ar line b) x silent (Ok tt) x
+  last_none_comes h = rw (last_none ar line b h) (comes_done _ x)
+
+  pub last_some_comes : {r : Result (Unit {0}) ℕ} {y : S} → b ≢ 0 → Comes st (a_use ar line) x silent r y → Comes st (a_last_if ar line b) x silent r y
+  last_some_comes h k = rw (last_some ar line b h) (silent_last _ k)
 
 -- ---- uses, and where an unfold stops
 
