@@ -4,7 +4,8 @@ use Prim.Native.Nat.{ℕ, ◌<◌}
 use mathlib.Core.Path.{◌≡◌, sym, ◌∙◌, ap, subst, fun_ext}
 use mathlib.Core.List.{List, []}
 use mathlib.Core.Bool.{false}
-use lib.ListN.{take}
+use native.Mathlib.Omega.{arith}
+use lib.ListN.{length, take, length-map}
 use Rattle.patterns.specs.Reason.{book_place}
 use Rattle.fields.specs.declared.Walker.{Walker}
 use Rattle.fields.specs.Source.{Walk}
@@ -75,6 +76,13 @@ module _ (book l : List ℕ) {b : RuleBook} {fs : List (ℕ × ℕ)} (opened : o
 module _ (book l counts : List ℕ) (h : Beside book counts) where
   pub arities_known : (λ f. arity_at book l false f) ≡ arity_in h.tree.arities
   arities_known = opened_arities book l h.opened
+
+  pub few_counts : length counts < 256
+  unfolding call_counts
+  few_counts =
+      let f = (book_fits book h.opened).count in
+      let e : length (call_counts h.tree.rules) ≡ length h.tree.rules = length-map h.tree.rules _ in
+      rw h.counted (omega arith)
 
   -- and the certificate's
   pub beside_ran : {src : Source} {c : Walker} {ws bs ws₁ bs₁ : List ℕ} {r : Walk}

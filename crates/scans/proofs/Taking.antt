@@ -1,7 +1,7 @@
 -- One field: where it is past the end, refused, or passed.
 use Rattle.std.specs.Prelude.{Ok, Err, Some, None}
 use Prim.Native.Nat.{ℕ, ◌+◌, ◌^◌, ◌<◌, ◌≤◌}
-use mathlib.Core.Path.{◌≡◌, refl, sym, ap, ◌∙◌, subst}
+use mathlib.Core.Path.{◌≡◌, refl, sym, ap, ap₂, ◌∙◌, subst}
 use mathlib.Core.List.{List}
 use mathlib.Core.Bool.{false}
 use mathlib.Core.Option.{none, some}
@@ -51,6 +51,12 @@ module _ (s : List ℕ) (w at : ℕ) {f : Taken} (g : f ≡ read_field s w at) {
   pub taken_in : packed_field s w at ≡ Ok v
   unfolding packed_field
   taken_in = ap of_bits (sym g ∙ e)
+
+  pub taken_at : at + w ≡ d.at
+  taken_at = (read_got s w at v d (sym g ∙ e)).1
+
+  pub taken_cursor : (k : FieldKind) (c : Cursor) → c.at ≡ at → bits k ≡ w → d ≡ past k c
+  taken_cursor k c p q = λ i. record { at = (sym taken_at ∙ ap₂ (λ (x y : ℕ). x + y) (sym p) (sym q)) i }
 
   pub taken_small : v < 2 ^ w
   taken_small = subst (λ n. n < 2 ^ w) (read_got s w at v d (sym g ∙ e)).0 (bits_lt s at w)
