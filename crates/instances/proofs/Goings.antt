@@ -1,10 +1,10 @@
 -- A walk under way: the nodes met so far, with those that the rest of the walk meets, are the whole walk's. One law for every loop over a term:
 -- what each keeps of the nodes met so far, `P`, is its own.
-use Prim.Native.Nat.{ℕ, suc, ◌-◌, ◌≤◌}
+use Prim.Native.Nat.{ℕ, suc, ◌+◌, ◌*◌, ◌-◌, ◌≤◌, ◌^◌}
 use Rattle.std.specs.Prelude.{Option, Some, None}
 use mathlib.Core.Path.{◌≡◌, refl, sym, subst, ap, ap₂, ◌∙◌}
 use mathlib.Core.Logic.{inl, inr, ⊎_elim}
-use mathlib.Core.Bool.{Bool, true, false}
+use mathlib.Core.Bool.{Bool, true, false, not, false≢true}
 use mathlib.Core.List.{List, [], ◌++◌, append_assoc, append-nil}
 use native.Mathlib.Omega.{arith}
 use lib.Dec.{eqb}
@@ -49,6 +49,10 @@ under_way {left} {pending} b so z =
   where
     above : (n : ℕ) → ¬ (n ≡ 0) → 1 ≤ n
     above n h = omega arith
+
+pub some_pending : (left pending : ℕ) (b : Bool) → Says (Ended left pending) b → not b ≡ true → pending + 65536 * left ≤ 2 ^ 32 → (1 ≤ pending) × (pending ≤ 2 ^ 32)
+some_pending left pending true so z few = absurd (false≢true z)
+some_pending left pending false so z few = ((under_way false so refl).1, omega arith)
 
 pub turn_over : (book s : List ℕ) (left : ℕ) (p : Stand) → Ended left p.pending → Turned book s left p left p None
 unfolding Turned walk

@@ -1,6 +1,7 @@
 -- The term that was spelled last is remembered by the stored nodes that it became, and where they stand again it has come again.
 use Prim.Native.Nat.{ℕ, ◌+◌, ◌-◌, ◌≤◌}
 use mathlib.Core.Path.{◌≡◌, sym, ap, subst, ◌∙◌}
+use mathlib.Core.Bool.{Bool}
 use mathlib.Core.List.{List, []}
 use Rattle.std.specs.Prelude.{Option, Some, None}
 use native.Mathlib.Omega.{arith}
@@ -10,6 +11,7 @@ use Rattle.patterns.specs.Push.{pushes}
 use Rattle.patterns.proofs.Push.{pushes_grow}
 use Rattle.table.specs.Places.{NODES}
 use Rattle.table.specs.Nodes.{stack}
+use Rattle.table.specs.Answer.{Assures}
 use Rattle.table.specs.Repeats.{Closed, part}
 use Rattle.table.specs.Second.{Came}
 use Rattle.table.specs.declared.Held.{Held}
@@ -31,6 +33,9 @@ onward {h = h} {k} ms t c = record {
 }
 
 module _ {h k : Held} {word : ℕ} {last : Option Spelt} where
+  pub held_last : NotesHeld h k word last last
+  held_last = record { told = λ book cert w base few t c m. m }
+
   pub held_new : h.power ≡ None → k.power ≡ None → k.nodes ≤ k.parts → NotesHeld h k word last (Some (record { word = word; from = h.nodes; count = k.nodes - h.nodes }))
   held_new z q l = record { told = go }
     where
@@ -50,6 +55,10 @@ module _ {h k : Held} {word : ℕ} {last : Option Spelt} where
           })
 
 -- ---- a term that comes again
+
+pub repeated : {w : List ℕ} {base word : ℕ} {r : Bool} (h : Held) (last : Spelt) → word ≡ last.word → h.power ≡ None → h.nodes + last.count ≤ h.parts
+    → Assures (part w base h.nodes last.count ≡ part w base last.from last.count) r → Assures (Repeated w base h word last) r
+repeated h last e z l a = record { so = λ y. record { word_same = e; none = z; few = l; same = a.so y } }
 
 pub came_repeated : {book cert w : List ℕ} {base word : ℕ} {h : Held} {s : Spelt} → Spelled book cert w base NODES s → Repeated w base h word s
     → Came w base (walked book cert (word - 1)).met h (record { nodes = h.nodes + s.count; parts = h.parts; power = h.power })

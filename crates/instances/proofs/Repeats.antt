@@ -1,7 +1,7 @@
 -- The term that was spelled last is remembered over every push, and copied it is what it would be spelled.
 use Prim.Native.Nat.{ℕ, ◌+◌, ◌-◌, ◌≤◌}
-use mathlib.Core.Path.{◌≡◌, sym, ap, subst, ◌∙◌}
-use mathlib.Core.Bool.{Bool, true}
+use mathlib.Core.Path.{◌≡◌, refl, sym, ap, subst, ◌∙◌}
+use mathlib.Core.Bool.{Bool, true, false, not, false≢true}
 use mathlib.Core.List.{List, [], ◌++◌}
 use Rattle.std.proofs.lemmas.Option.{none-some}
 use native.Mathlib.Omega.{arith}
@@ -59,6 +59,10 @@ remembers_new {book} {cert} {w} {v} {base} {n} {k} word g c d =
     })
 
 -- ---- which one is remembered
+
+pub no_yes : (b : Bool) → not b ≡ false → b ≡ true
+no_yes true e = refl
+no_yes false e = absurd (false≢true (sym e))
 
 module _ {base n k word : ℕ} {closed : Bool} {last : Option Spelt} {v : List ℕ} where
   pub notes_last : Notes base n k word closed last v last

@@ -75,7 +75,7 @@ module _ {w : List ℕ} {base k p code : ℕ} where
 -- ---- a power, by its three words
 
 module _ (w : List ℕ) (at code a b : ℕ) where
-  word_other : ¬ (get_or w at 0 ≡ code) → IsPower w at code a b false
+  pub word_other : ¬ (get_or w at 0 ≡ code) → IsPower w at code a b false
   unfolding Says node_at
   word_other d = record { told = λ s e z. code_other _ _ _ _ a b d (z ∙ sym (pow_told s a b) ∙ ap (λ c. node_of c a b) (sym e)) }
 
@@ -87,11 +87,11 @@ module _ (w : List ℕ) (at code a b : ℕ) where
     numbers : (s : ℕ) → code ≡ 3 * s + 2 → node_at w at ≡ npow s (a, b) → ◌≡◌ {A = Exp} (get_or w (at + 1) 0, get_or w (at + 2) 0) (a, b)
     numbers s e z = cc (told_so s e)
 
-    first_other : ¬ (get_or w (at + 1) 0 ≡ a) → IsPower w at code a b false
+    pub first_other : ¬ (get_or w (at + 1) 0 ≡ a) → IsPower w at code a b false
     unfolding Says
     first_other d = record { told = λ s e z. d (ap (λ (x : Exp). x.0) (numbers s e z)) }
 
-    second_told : get_or w (at + 1) 0 ≡ a → IsPower w at code a b (eqb (get_or w (at + 2) 0) b)
+    pub second_told : get_or w (at + 1) 0 ≡ a → IsPower w at code a b (eqb (get_or w (at + 2) 0) b)
     unfolding Says
     second_told f = record { told = λ s e. go s e (ℕ_discrete (get_or w (at + 2) 0) b) }
       where

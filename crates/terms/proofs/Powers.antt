@@ -21,13 +21,13 @@ use Rattle.terms.proofs.Nodes.{term_falls}
 
 -- ---- a term, by the nodes that are allowed
 
-term_none : {S : Type 0} {st : Steps S} (deep : ℕ) (ar : ℕ → ℕ) (end least above left : ℕ) {x : S} → left ≡ 0
+pub term_none : {S : Type 0} {st : Steps S} (deep : ℕ) (ar : ℕ → ℕ) (end least above left : ℕ) {x : S} → left ≡ 0
     → Comes st (a_term deep ar end least above left) x left_of (Err 6) x
 unfolding a_term bind field
 term_none zero ar end least above left {x} h = comes_spent kind.tag (node least 0) _ x refl
 term_none (suc deep) ar end least above left {x} h = comes_spent kind.tag (node least left) _ x (eq-eqb left 0 h)
 
-term_some : {S : Type 0} {st : Steps S} (deep : ℕ) (ar : ℕ → ℕ) (end least above left : ℕ) {x y : S} {r : Result ℕ ℕ} → left ≢ 0 → left ≤ deep
+pub term_some : {S : Type 0} {st : Steps S} (deep : ℕ) (ar : ℕ → ℕ) (end least above left : ℕ) {x y : S} {r : Result ℕ ℕ} → left ≢ 0 → left ≤ deep
     → ((d : ℕ) → left - 1 ≤ d
     → Comes st (bind (field kind.tag (node least left)) (a_node (λ f k. a_term d ar end 0 f k) ar end above (left - 1))) x left_of r y)
     → Comes st (a_term deep ar end least above left) x left_of r y
@@ -64,6 +64,9 @@ module _ {S : Type 0} {st : Steps S} {p : Grammar Grown} {x y : S} {term : ℕ �
 pub record Through {S : Type 0} (st : Steps S) (ar : ℕ → ℕ) (end least left : ℕ) (x : S) (from above rest : ℕ) (y : S) : Type 0 where
   pub whole : (r : Result ℕ ℕ) (z : S) → ((deep : ℕ) → rest ≤ deep → Comes st (a_term deep ar end from above rest) y left_of r z)
       → (deep : ℕ) → left ≤ deep → Comes st (a_term deep ar end least 256 left) x left_of r z
+
+pub through_here : {S : Type 0} {st : Steps S} {ar : ℕ → ℕ} {end least left : ℕ} {x : S} → Through st ar end least left x least 256 left x
+through_here = record { whole = λ r z h. h }
 
 module _ {S : Type 0} {st : Steps S} {ar : ℕ → ℕ} {end least left : ℕ} {x : S} {from above rest : ℕ} {y : S} (T : Through st ar end least left x from above rest y) where
   pub through_none : rest ≡ 0 → (deep : ℕ) → left ≤ deep → Comes st (a_term deep ar end least 256 left) x left_of (Err 6) y
