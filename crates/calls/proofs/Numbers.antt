@@ -15,7 +15,7 @@ use Rattle.table.proofs.Nodes.{TellsNode, is_var, is_fun, is_pow, tells, is_powe
 
 -- ---- the larger of two
 
-larger_second : (n m : ℕ) → n ≤ m → m ≡ larger n m
+pub larger_second : (n m : ℕ) → n ≤ m → m ≡ larger n m
 unfolding larger
 larger_second n m h = go (dec_le n m)
   where
@@ -23,7 +23,7 @@ larger_second n m h = go (dec_le n m)
     go (yes p) = refl
     go (no p) = absurd (p h)
 
-larger_first : (n m : ℕ) → m < n → n ≡ larger n m
+pub larger_first : (n m : ℕ) → m < n → n ≡ larger n m
 unfolding larger
 larger_first n m h = go (dec_le n m)
   where
@@ -104,3 +104,6 @@ largest_more w j most n r e f g =
     g ∙ larger_max n most ∙ ap₂ larger f e ∙ sym (largest_behind (side w FIRST j) (node_at w (FIRST + 3 * j)))
     ∙ ap largest (sym (reverse-cons (node_at w (FIRST + 3 * j)) (stack w FIRST j)))
     ∙ ap (λ i. largest (side w FIRST i)) up
+
+pub largest_all : (w : List ℕ) (k j most : ℕ) → j ≤ k → k ≤ j → most ≡ largest (side w FIRST j) → most ≡ largest (side w FIRST k)
+largest_all w k j most p q e = let same : j ≡ k = omega arith in e ∙ ap (λ i. largest (side w FIRST i)) same

@@ -6,18 +6,18 @@ use mathlib.Core.List.{List, [], ◌∷◌}
 use native.Mathlib.Decide.{ℕ_discrete}
 use native.Mathlib.Nat.{zero-add}
 use native.Mathlib.Omega.{arith}
-use lib.ListN.{get_or, set, length-set}
+use lib.ListN.{length, get_or, set, length-set}
 use lib.Seq.{get_or-set_same, get_or-set_other}
 use Rattle.patterns.specs.Term.{Node}
 use Rattle.patterns.specs.First.{Exp}
 use Rattle.covering.specs.Left.{Left, places, behind}
-use Rattle.table.specs.Places.{NODES, FIRST, ENDS}
+use Rattle.table.specs.Places.{WORDS, NODES, FIRST, ENDS}
 use Rattle.table.specs.Nodes.{node_at}
 use Rattle.table.specs.Sides.{Kept}
-use Rattle.table.proofs.Writes.{kept_then}
+use Rattle.table.proofs.Writes.{kept_self, kept_then}
 use Rattle.table.proofs.Nodes.{TellsNode, is_var, is_fun, is_pow, tells}
 use Rattle.calls.specs.Standing.{counted, counted_node, rest, end_of, Spans, Ends}
-use Rattle.calls.specs.Moving.{Follows, Passes}
+use Rattle.calls.specs.Moving.{Follows, Passes, NotesEnds}
 use Rattle.calls.proofs.Standing.{rest_node, rest_end, rest_kept}
 
 -- ---- how many terms follow a node
@@ -67,6 +67,9 @@ module _ (ar : ℕ → ℕ) where
       let q : places ar m + (a + b) ≡ places ar m + a + b = omega arith in
       ap (behind ar (m ∷ ms)) p ∙ ap (behind ar ms) q ∙ behind_add ms (places ar m + a) b
 
+  pub behind_first : (ms : Left) (n : ℕ) → 0 < n → behind ar ms n ≡ behind ar (behind ar ms 1) (n - 1)
+  behind_first ms n h = let p : n ≡ 1 + (n - 1) = omega arith in ap (behind ar ms) p ∙ behind_add ms 1 (n - 1)
+
 module _ {w : List ℕ} {k j : ℕ} where
   pub passes_start : j ≤ k → Passes w k j 0 j
   passes_start h = record { told = λ ar e. sym (behind_none ar (rest w k j)); after = omega arith; within = h }
@@ -110,6 +113,26 @@ pub record Noting (ar : ℕ → ℕ) (k : ℕ) (w₀ w : List ℕ) (j : ℕ) : T
   pub within : j ≤ k
 
 module _ {ar : ℕ → ℕ} {k : ℕ} {w₀ : List ℕ} where
+  pub noting_start : WORDS ≤ length w₀ → k ≤ NODES → Noting ar k w₀ w₀ k
+  noting_start long few = record {
+    spans = record { long = long; few = few; after = λ i a b. absurd (omega arith); within = λ i a b. absurd (omega arith) };
+    ends = record { each = λ i a b. absurd (omega arith) };
+    kept = kept_self ENDS NODES w₀;
+    within = omega arith;
+  }
+
+  pub noting_over : {w : List ℕ} {j : ℕ} → j ≤ 0 → Noting ar k w₀ w j → NotesEnds ar k w₀ w
+  noting_over {w} {j} z h = record {
+    spans = record {
+      long = h.spans.long;
+      few = h.spans.few;
+      after = λ i a b. h.spans.after i (omega arith) b;
+      within = λ i a b. h.spans.within i (omega arith) b;
+    };
+    ends = record { each = λ i a b. h.ends.each i (omega arith) b };
+    kept = h.kept;
+  }
+
   module _ {w : List ℕ} (j : ℕ) {n e : ℕ} (h : Noting ar k w₀ w (j + 1)) (f : Follows ar (get_or w (FIRST + 3 * j) 0) n) (p : Passes w k (j + 1) n e) where
     abbrev v : List ℕ
     v = set w (ENDS + j) e

@@ -108,6 +108,11 @@ pub record Comparing (w : List ℕ) (p q : Place) (n : ℕ) (a b : Place) (i : �
   pub second : b.node ≡ q.node + i
 
 module _ {w : List ℕ} {p q : Place} {n : ℕ} where
+  pub comparing_start : Comparing w p q n p q 0
+  comparing_start =
+      let all : n - 0 ≡ n = omega arith in
+      record { whole = (subst (Equal w p q) all, subst (Equal w p q) (sym all)); first = omega arith; second = omega arith }
+
   module _ {a b : Place} {i : ℕ} (h : Comparing w p q n a b i) where
     pub comparing_over : n ≤ i → Says (Equal w p q n) true
     unfolding Says nodes_from lessened
