@@ -98,6 +98,12 @@ module _ (book s : List ℕ) (k at i n : ℕ) (w₀ : List ℕ) where
 
 -- ---- how many indices are worth a try
 
+pub last_large : {k : ℕ} {w : List ℕ} {most : ℕ} → most ≡ largest (side w FIRST k) → 4095 < most → LastIndex k w 4095
+last_large e h = record { told = λ l. absurd (omega arith); small = omega arith }
+
+pub last_small : {k : ℕ} {w : List ℕ} {most : ℕ} → most ≡ largest (side w FIRST k) → most ≤ 4095 → LastIndex k w most
+last_small e h = record { told = λ l. e; small = h }
+
 module _ (book s : List ℕ) (k at α : ℕ) (w : List ℕ) (start : α ≤ 4095) {r : Bool} (L : Levels book s at r) where
   pub tries_level : r ≡ true → Tries book s k at α w 1
   unfolding tries

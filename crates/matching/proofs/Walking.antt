@@ -2,7 +2,7 @@
 use Prim.Native.Nat.{ℕ, ◌-◌, ◌≤◌}
 use mathlib.Core.Path.{◌≡◌, sym, ◌∙◌, ap, ap₂, subst}
 use mathlib.Core.List.{List, ◌++◌}
-use mathlib.Core.Bool.{true, false}
+use mathlib.Core.Bool.{Bool, true, false}
 use mathlib.Core.Option.{none, some, bind}
 use native.Mathlib.Omega.{arith}
 use Rattle.std.specs.Prelude.{Option, Some, None}
@@ -13,14 +13,14 @@ use Rattle.covering.specs.Left.{Left}
 use Rattle.covering.specs.Walk.{Bindings, State, walk}
 use Rattle.covering.specs.Search.{number, found, fits}
 use Rattle.covering.proofs.Matching.{walk_append}
-use Rattle.table.specs.Places.{FIRST, BOUND}
+use Rattle.table.specs.Places.{NODES, FIRST, BOUND}
 use Rattle.table.specs.Nodes.{side}
 use Rattle.table.specs.Sides.{Kept}
 use Rattle.table.proofs.Writes.{kept_then}
 use Rattle.table.proofs.Sides.{kept_wider}
 use Rattle.instances.specs.Lying.{arities}
 use Rattle.instances.specs.Listings.{Forgets}
-use Rattle.instances.specs.Walks.{single, Passage}
+use Rattle.instances.specs.Walks.{single, Passage, walked}
 use Rattle.instances.specs.Turns.{Begins, Turns}
 use Rattle.instances.specs.Walks.{walk as passage}
 use Rattle.instances.specs.declared.Header.{Header}
@@ -32,7 +32,7 @@ use Rattle.calls.specs.declared.Place.{Place}
 use Rattle.calls.proofs.Standing.{lessened_none, retag_append, side_nodes, spans_kept, ends_kept}
 use Rattle.matching.specs.Bound.{bindings, state_at, arrived}
 use Rattle.matching.specs.Matching.{Matches, FitsAt}
-use Rattle.matching.proofs.Bound.{left_kept, unbound}
+use Rattle.matching.proofs.Bound.{left_kept, side_kept, unbound}
 
 -- a call of which nothing is matched yet
 abbrev begin : List ℕ → ℕ → State
@@ -129,3 +129,20 @@ module _ (book s : List ℕ) (k at i : ℕ) (w₀ : List ℕ) (spans : Spans w�
         inside = subst (Inside k) z m.inside;
         kept = kept_then g.kept m.kept;
       }
+
+-- ---- the bindings forgotten first
+
+module _ {w u : List ℕ} (f : Forgets BOUND w u) where
+  forgot : Kept BOUND 128 w u
+  forgot = kept_wider (omega arith) (omega arith) f.kept
+
+  pub forgot_spans : {k : ℕ} → Spans w k 0 → Spans u k 0
+  forgot_spans s = spans_kept w u f.kept.size (λ n h. f.kept.low n h) s
+
+  pub forgot_fits : {book s v : List ℕ} {k at i : ℕ} {r : Bool} → k ≤ NODES → FitsAt book s k at i u v r → FitsAt book s k at i w v r
+  forgot_fits {book} {s} {v} {k} {at} {i} few h = record {
+    told = λ E.
+        h.told (ends_kept w u f.kept.size (λ n l. f.kept.low n l) few E)
+        ∙ ap (λ ms. fits (arities book) (walked book s at).met ms i) (side_kept w u k few (λ n l. f.kept.low n (omega arith)));
+    kept = kept_then forgot h.kept;
+  }
