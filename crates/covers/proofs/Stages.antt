@@ -10,6 +10,7 @@ use Rattle.answers.specs.Numbers.{Reply, denied, paper_refusal, paper_pace, pape
 use Rattle.answers.specs.declared.Refusal.{Refusal}
 use Rattle.answers.specs.declared.Acceptance.{Acceptance}
 use Rattle.answers.proofs.Refusing.{refused_coverage}
+use Rattle.bits.specs.Bits.{Bytes}
 use Rattle.patterns.specs.Reason.{call_place, neither_place}
 use Rattle.patterns.specs.Formed.{Formed}
 use Rattle.patterns.specs.First.{Pattern, Pace}
@@ -32,6 +33,7 @@ use Rattle.verdicts.specs.Judging.{refusal_one, judging_files, judging}
 use Rattle.verdicts.specs.Demands.{Acceptable}
 use Rattle.verdicts.proofs.Demands.{book_opens, certificate_opens, accepts_exactly_when}
 use Rattle.verdicts.proofs.Layers.{table_enough}
+use Rattle.judging.specs.Placed.{Placed}
 use Rattle.judging.proofs.Opened.{lies_opened, book_lies, book_arities}
 use Rattle.matching.specs.Matching.{index_found, Searches}
 use Rattle.covers.specs.Asking.{not_covered, told_index, asking_accepted, asking_judged, asking}
@@ -133,6 +135,15 @@ module _ (book certificate call : List ℕ) {v : Result Acceptance Refusal} {j :
       → paper_coverage r ≡ asking_accepted book certificate call a.line (paper_pace a) → paper_coverage r ≡ asking_judged book certificate call j
   unfolding paper_verdict asking_judged
   accepted_judged r e q = q ∙ ap (asking_judged book certificate call) (ap paper_verdict (sym e) ∙ told)
+
+pub accepted_ready : {book certificate work : List ℕ} {v : Result Acceptance Refusal} {a : Acceptance} → Bytes book → Bytes certificate
+    → paper_verdict v ≡ judging_files book certificate → Placed book certificate work v → v ≡ Ok a → Ready book certificate work a
+accepted_ready {book} {certificate} {work} x y told placed e = record {
+  book_bytes = x;
+  certificate_bytes = y;
+  verdict = ap paper_verdict (sym e) ∙ told;
+  placed = subst (Placed book certificate work) e placed;
+}
 
 -- ---- the table
 

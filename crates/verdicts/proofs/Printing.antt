@@ -3,8 +3,8 @@ use Prim.Native.Nat.{ℕ, suc, ◌+◌, ◌*◌, ◌≤◌, ◌<◌}
 use mathlib.Core.Path.{◌≡◌, refl, sym, ap, ◌∙◌}
 use mathlib.Core.List.{List, [], ◌∷◌, ◌++◌, append_assoc, append-nil}
 use native.Mathlib.Omega.{arith}
-use lib.ListN.{length, take, drop, get_or, set, length-append, take-append-drop}
-use lib.Seq.{take-suc}
+use lib.ListN.{length, take, drop, get_or, set, length-append, length-set, take-append-drop}
+use lib.Seq.{take-suc, take-length}
 use borrow.Author.Tests.{lt-ltb, le-ltb}
 use Rattle.std.specs.List.{sum_by}
 use Rattle.std.proofs.lemmas.List.Sums.{sum_by-cons}
@@ -12,7 +12,7 @@ use Rattle.layout.specs.Answers.{gives, output}
 use Rattle.verdicts.specs.Decimal.{decimal}
 use Rattle.verdicts.specs.Printing.{spaced, sentence, put_at, written_length, Prints}
 use Rattle.verdicts.proofs.Decimal.{length_twenty}
-use Rattle.verdicts.proofs.Puts.{put_front, put_one, put_put, put_more}
+use Rattle.verdicts.proofs.Puts.{put_length, put_front, put_one, put_put, put_more}
 
 abbrev spaced_one : ℕ → List ℕ
 spaced_one n = 32 ∷ decimal n
@@ -60,6 +60,10 @@ spaced_within l i =
       ap length (spaced_append (take i l) (drop i l)),
       length-append (spaced (take i l)) (spaced (drop i l)),
     )
+
+pub spaced_all : (l : List ℕ) (i : ℕ) → i ≤ length l → length l ≤ i → spaced (take i l) ≡ spaced l
+spaced_all l i h k =
+    ap (λ (n : ℕ). spaced (take n l)) {x = i} {y = length l} (omega arith) ∙ ap spaced (take-length l)
 
 -- a space and then a number
 pub put_spaced_one : (out : List ℕ) (k n : ℕ) → k + 1 + length (decimal n) ≤ length out
@@ -136,3 +140,12 @@ module _ (word ns out : List ℕ) where
             ∙ all_put fits;
         short = omega arith;
       }
+
+  pub sentence_size : {n : ℕ} (k d : ℕ) {out₁ out₂ : List ℕ} → n ≡ length (spaced ns) → length word + n + 1 ≤ length out
+      → out₁ ≡ put_at out 0 word → out₂ ≡ put_at out₁ (length word) (spaced ns) → length (set out₂ k d) ≡ length out
+  sentence_size {n} k d {out₁} {out₂} e h first second =
+      let front : length out₁ ≡ length out = ap length first ∙ put_length out 0 word (omega arith) in
+      length-set out₂ k d
+      ∙ ap length second
+      ∙ put_length out₁ (length word) (spaced ns) (omega (arith, front))
+      ∙ front

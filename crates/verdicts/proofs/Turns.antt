@@ -8,7 +8,7 @@ use Rattle.verdicts.specs.Decimal.{byte, decimal}
 use Rattle.verdicts.specs.Printing.{spaced, put_at}
 use Rattle.verdicts.proofs.Decimal.{by_size, decimal_last, decimal_step, length_last, length_step, length_some}
 use Rattle.verdicts.proofs.Puts.{put_length, put_none, put_before, put_put}
-use Rattle.verdicts.proofs.Printing.{spaced_more, spaced_longer, spaced_within, put_spaced_one}
+use Rattle.verdicts.proofs.Printing.{spaced_more, spaced_longer, spaced_within, spaced_all, put_spaced_one}
 
 -- the digits of n behind those of m are put, from k on; at the first place all of them are
 pub record DigitsPut (out₀ : List ℕ) (at n : ℕ) (out : List ℕ) (k m : ℕ) : Type 0 where
@@ -106,3 +106,9 @@ module _ {out₀ : List ℕ} {at : ℕ} {ns : List ℕ} (room : at + length (spa
         filled = done;
         size = ap length done ∙ put_length out₀ at (spaced (take (i + 1) ns)) (omega (arith, most));
       }
+
+  pub listed_all : {out : List ℕ} {k i : ℕ} → length ns ≤ i → ListedNumbers out₀ at ns out k i → out ≡ put_at out₀ at (spaced ns)
+  listed_all {out} {k} {i} h c = c.filled ∙ ap (put_at out₀ at) (spaced_all ns i c.within h)
+
+  pub listed_end : {out : List ℕ} {k i : ℕ} → length ns ≤ i → ListedNumbers out₀ at ns out k i → k ≡ at + length (spaced ns)
+  listed_end {out} {k} {i} h c = c.here ∙ ap (λ (t : List ℕ). at + length t) (spaced_all ns i c.within h)
