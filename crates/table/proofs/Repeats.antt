@@ -1,22 +1,21 @@
 -- What is pushed above a place where nothing merges: it is what it is on an empty stack, and what stands below stays.
 use Prim.Native.Nat.{ℕ, zero, suc, ◌+◌, ◌*◌, ◌-◌, ◌%◌, ◌≤◌, ◌<◌}
 use mathlib.Core.Path.{◌≡◌, refl, sym, ap, ap₂, subst, ◌∙◌}
-use mathlib.Core.Bool.{Bool, true, false, ◌&&◌}
 use mathlib.Core.Logic.{ite}
 use mathlib.Core.List.{List, [], ◌∷◌, ◌++◌}
 use native.Mathlib.Decide.{ℕ_discrete}
 use native.Mathlib.Numerals.{add-one}
 use native.Mathlib.Omega.{arith}
 use lib.Dec.{eqb}
-use lib.ListN.{length, length-append}
+use lib.ListN.{length, get_or, length-append}
 use borrow.Author.Tests.{eqb-true}
 use Rattle.patterns.specs.Term.{Node, nvar, nfun, npow}
 use Rattle.patterns.specs.First.{Exp, exponents}
 use Rattle.patterns.specs.Push.{put, push, pushes}
-use Rattle.table.specs.Nodes.{node_at, stack, top_code, Words}
+use Rattle.table.specs.Nodes.{node_at, stack, top_code}
 use Rattle.table.specs.Answer.{Assures}
 use Rattle.table.specs.Repeats.{Closed, part}
-use Rattle.table.proofs.Nodes.{tells, stack_length, words_node}
+use Rattle.table.proofs.Nodes.{tells, stack_length}
 use Rattle.table.proofs.Pushing.{plain_rests}
 
 -- ---- pushes above a closed place
@@ -154,17 +153,8 @@ part_more w base n start k e f = subst (λ i. part w base n i ≡ part w base st
 pub part_all : (w : List ℕ) (base n start k count : ℕ) → k ≡ count → part w base n k ≡ part w base start k → part w base n count ≡ part w base start count
 part_all w base n start k count l e = subst (λ i. part w base n i ≡ part w base start i) l e
 
-both : (a b : Bool) → (a && b) ≡ true → (a ≡ true) × (b ≡ true)
-both true true e = (refl, refl)
-both true false e = let z : ◌≡◌ {A = ℕ} 0 1 = cc in absurd (omega arith)
-both false b e = let z : ◌≡◌ {A = ℕ} 0 1 = cc in absurd (omega arith)
-
--- that is what `==` tells of the words of two nodes
-pub words_again : {r : Bool} {w : List ℕ} {p q x y z x' y' z' : ℕ} → Words w p x y z → Words w q x' y' z'
-    → r ≡ (eqb x x' && (eqb y y' && eqb z z')) → Assures (node_at w p ≡ node_at w q) r
-words_again {r} {w} {p} {q} {x} {y} {z} {x'} {y'} {z'} s t e = record { so = λ h. go (both (eqb x x') (eqb y y' && eqb z z') (sym e ∙ h)) }
-  where
-    go : (eqb x x' ≡ true) × (eqb y y' && eqb z z' ≡ true) → node_at w p ≡ node_at w q
-    go f =
-        let g = both (eqb y y') (eqb z z') f.1 in
-        sym (words_node s) ∙ rw (eqb-true _ _ f.0, eqb-true _ _ g.0, eqb-true _ _ g.1) (words_node t)
+-- where the first two words of two nodes are the same, the third decides
+pub third_again : (w : List ℕ) (p q : ℕ) → get_or w p 0 ≡ get_or w q 0 → get_or w (p + 1) 0 ≡ get_or w (q + 1) 0
+    → Assures (node_at w p ≡ node_at w q) (eqb (get_or w (p + 2) 0) (get_or w (q + 2) 0))
+unfolding node_at
+third_again w p q x y = record { so = λ z. rw (x, y, eqb-true _ _ z) refl }

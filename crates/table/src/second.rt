@@ -9,7 +9,7 @@ ghost use Rattle.table.specs.Answer.{Assures};
 ghost use Rattle.table.specs.Repeats.{part};
 ghost use Rattle.table.specs.Second.{IsPower, PartsNext, PowerPartsNext, weight, AtRest, CameOne, Concludes};
 
-use crate::{Held, Item, NODES, Outcome, Triple, stored};
+use crate::{Held, Item, NODES, Outcome, Triple};
 
 // Whether the node at a place is the power that three words tell.
 fn is_power(w: &[u64], p: usize, power: Triple) -> bool
@@ -127,12 +127,15 @@ pub fn hold(w: &[u64], base: usize, h: Held, node: Item) -> Held
     }
 }
 
-// Whether the nodes at two places have the same words.
+// Whether the nodes at two places have the same words. Word by word, and no `==` of two `Triple`s, for which the compiler reads all words first.
 fn is_same(w: &[u64], p: usize, q: usize) -> bool
     requires { (p + 3 ≤ length w.now) × (q + 3 ≤ length w.now) }
     ensures { Assures (node_at w.now p ≡ node_at w.now q) result }
 {
-    stored(w, p) == stored(w, q)
+    if w[p] != w[q] {
+        return false;
+    }
+    w[p + 1] == w[q + 1] && w[p + 2] == w[q + 2]
 }
 
 // Whether the `count` nodes from number n on are those from number `from` on.
