@@ -61,6 +61,10 @@ module _ (w : List ℕ) (base n start : ℕ) (room : Room base n w) where
         (subst (λ i. Became base (part w base start i ++ stack w base n) w u (Some (n + k + 1))) (sym (add-one k))
         (became_as (more (words_node s) l) (record { holds = one.holds; kept = kept_then c.kept one.kept })))
 
+    -- all of them
+    pub copied_all : (count : ℕ) → k ≡ count → Became base (part w base start count ++ stack w base n) w v (Some (n + count))
+    copied_all count e = subst (λ i. Became base (part w base start i ++ stack w base n) w v (Some (n + i))) e c
+
 -- on a closed side that is what a push of the nodes gives that they came from
 pub copied_pushed : {base : ℕ} {w v : List ℕ} {r : Option ℕ} (n start count : ℕ) (ms : List (Node Exp)) → Closed (stack w base n)
     → part w base start count ≡ pushes exponents [] ms → Became base (part w base start count ++ stack w base n) w v r → Pushes base n ms w v r
