@@ -5,19 +5,19 @@ use mathlib.Core.List.{List, [], ◌∷◌, ◌++◌}
 use Rattle.std.proofs.lemmas.Option.{none-some}
 use native.Mathlib.Numerals.{add-one}
 use native.Mathlib.Omega.{arith}
-use lib.ListN.{length, length-append}
+use lib.ListN.{length, get_or, length-append}
 use Rattle.patterns.specs.Term.{Node}
 use Rattle.patterns.specs.First.{Exp, exponents}
 use Rattle.patterns.specs.Push.{pushes}
 use Rattle.patterns.proofs.Push.{pushes_grow}
 use Rattle.table.specs.Places.{SIDE, NODES}
-use Rattle.table.specs.Nodes.{node_at, with_node, stack, Words}
+use Rattle.table.specs.Nodes.{node_at, with_node, stack}
 use Rattle.table.specs.Sides.{Room, Stacked, Became, Pushes}
 use Rattle.table.specs.Repeats.{Closed, part}
 use Rattle.table.specs.Second.{Parts, alike, Tracks, rests, waits, Came}
 use Rattle.table.specs.declared.Held.{Held}
 use Rattle.std.specs.Prelude.{Option, Some, None}
-use Rattle.table.proofs.Nodes.{stack_length, words_node}
+use Rattle.table.proofs.Nodes.{stack_length}
 use Rattle.table.proofs.Writes.{kept_self, kept_then}
 use Rattle.table.proofs.Pushing.{became_as, store_one}
 use Rattle.table.proofs.Parting.{parts_none}
@@ -46,20 +46,21 @@ module _ (w : List ℕ) (base n start : ℕ) (room : Room base n w) where
         subst (λ i. stack v base i ≡ stack w base n) (stack_length w base n)
         (stack_below v base (n + k) (part w base start k) (stack w base n) c.holds.1)
 
-    more : {m : Node Exp} → m ≡ node_at v (base + 3 * (start + k)) → start + k < n → m ∷ stack v base (n + k) ≡ part w base start (suc k) ++ stack w base n
+    more : start + k < n → node_at v (base + 3 * (start + k)) ∷ stack v base (n + k) ≡ part w base start (suc k) ++ stack w base n
     unfolding part Stacked
-    more e l = ap₂ ◌∷◌ (e ∙ node_same v w base n (start + k) below l) c.holds.1
+    more l = ap₂ ◌∷◌ (node_same v w base n (start + k) below l) c.holds.1
 
-    -- one node more, by its words
-    pub copied_more : (u : List ℕ) {x y z : ℕ} → start + k < n → n + k < NODES → Words v (base + 3 * (start + k)) x y z
-        → u ≡ with_node v (base + 3 * (n + k)) x y z
+    -- one node more
+    pub copied_more : (u : List ℕ) → start + k < n → n + k < NODES
+        → u ≡ with_node v (base + 3 * (n + k)) (get_or v (base + 3 * (start + k)) 0) (get_or v (base + 3 * (start + k) + 1) 0) (get_or v (base + 3 * (start + k) + 2) 0)
         → Became base (part w base start (k + 1) ++ stack w base n) w u (Some (n + (k + 1)))
-    copied_more u l f s e =
+    unfolding node_at
+    copied_more u l f e =
         let one = store_one v base (n + k) _ _ _ (record { within = omega (arith, room.within, c.kept.size); few = omega arith }) u (λ z. omega arith) e in
         let next : n + k + 1 ≡ n + (k + 1) = omega arith in
         subst (λ i. Became base (part w base start (k + 1) ++ stack w base n) w u (Some i)) next
         (subst (λ i. Became base (part w base start i ++ stack w base n) w u (Some (n + k + 1))) (sym (add-one k))
-        (became_as (more (words_node s) l) (record { holds = one.holds; kept = kept_then c.kept one.kept })))
+        (became_as (more l) (record { holds = one.holds; kept = kept_then c.kept one.kept })))
 
     -- all of them
     pub copied_all : (count : ℕ) → k ≡ count → Became base (part w base start count ++ stack w base n) w v (Some (n + count))

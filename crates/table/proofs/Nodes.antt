@@ -9,7 +9,7 @@ use lib.ListN.{length, get_or, length-reverse}
 use borrow.Author.Tests.{eq-eqb, ne_eqb}
 use Rattle.patterns.specs.Term.{Node, nvar, nfun, npow}
 use Rattle.patterns.specs.First.{Exp}
-use Rattle.table.specs.Nodes.{node_of, node_at, stack, side, Words}
+use Rattle.table.specs.Nodes.{node_of, node_at, with_node, stack, side, Words}
 
 -- what a node's words say
 pub data TellsNode (c a b : ℕ) : Node Exp → Type 0 where
@@ -41,10 +41,10 @@ pow_told s a b =
     rw (ne_eqb ((3 * s + 2) % 3) 0 (λ z. omega arith), ne_eqb ((3 * s + 2) % 3) 1 (λ z. omega arith))
     (ap (λ n. npow n (a, b)) (omega arith))
 
--- the node at a place, by its words
-pub words_node : {w : List ℕ} {p c a b : ℕ} → Words w p c a b → node_of c a b ≡ node_at w p
-unfolding node_at
-words_node s = rw (s.first, s.second, s.third) refl
+-- a node written as its words stand elsewhere
+pub words_written : {v u : List ℕ} {p x y z : ℕ} (q : ℕ) → Words v p x y z → u ≡ with_node v q x y z
+    → u ≡ with_node v q (get_or v p 0) (get_or v (p + 1) 0) (get_or v (p + 2) 0)
+words_written q s e = e ∙ rw (s.first, s.second, s.third) refl
 
 -- ---- the same node
 

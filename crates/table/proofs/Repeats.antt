@@ -153,8 +153,12 @@ part_more w base n start k e f = subst (λ i. part w base n i ≡ part w base st
 pub part_all : (w : List ℕ) (base n start k count : ℕ) → k ≡ count → part w base n k ≡ part w base start k → part w base n count ≡ part w base start count
 part_all w base n start k count l e = subst (λ i. part w base n i ≡ part w base start i) l e
 
+pub node_again : (w : List ℕ) (p q : ℕ) → get_or w p 0 ≡ get_or w q 0 → get_or w (p + 1) 0 ≡ get_or w (q + 1) 0 → get_or w (p + 2) 0 ≡ get_or w (q + 2) 0
+    → node_at w p ≡ node_at w q
+unfolding node_at
+node_again w p q x y z = rw (x, y, z)
+
 -- where the first two words of two nodes are the same, the third decides
 pub third_again : (w : List ℕ) (p q : ℕ) → get_or w p 0 ≡ get_or w q 0 → get_or w (p + 1) 0 ≡ get_or w (q + 1) 0
     → Assures (node_at w p ≡ node_at w q) (eqb (get_or w (p + 2) 0) (get_or w (q + 2) 0))
-unfolding node_at
-third_again w p q x y = record { so = λ z. rw (x, y, eqb-true _ _ z) refl }
+third_again w p q x y = record { so = λ z. node_again w p q x y (eqb-true _ _ z) }
